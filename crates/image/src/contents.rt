@@ -1,0 +1,44 @@
+// A slot's contents: a key, then the words of its value.
+use crate::header::Header;
+ghost use mathlib.Core.Path.{_≡_};
+ghost use Prim.Native.Nat.{_+_, _≤_};
+ghost use lib.ListN.{length};
+ghost use Rattle.image.specs.Layout.{Slot, Slots, keyAt, stored, contents, setContents, SlotLine};
+
+pub fn key_at(img: &[u32], n: usize, w: usize, s: usize) -> u32
+    requires { ⌜ Slot (now img) n w s ⌝ }
+    ensures { λ r. ⌜ r ≡ keyAt (now (img .entry)) n w s ⌝ }
+{
+    img[3 + Header::WORDS * n + w * s]
+}
+
+// The first `k` words of `src`, stored in `dst` from `b` on.
+pub fn store_words(dst: &mut [u32], b: usize, src: &[u32], k: usize)
+    requires { ⌜ (b + k ≤ length (now dst)) × (k ≤ length (now src)) ⌝ }
+    ensures { λ _. ⌜ now (dst .exit) ≡ stored (now (dst .entry)) b (now (src .entry)) k ⌝ }
+{
+    let mut j = 0;
+    while j < k {
+        dst[b + j] = src[j];
+        j += 1;
+    }
+}
+
+// A line of W words becomes the contents of a slot.
+pub fn set_contents(img: &mut [u32], n: usize, w: usize, s: usize, line: &[u32])
+    requires { ⌜ SlotLine (now img) n w s (now line) ⌝ }
+    ensures { λ _. ⌜ now (img .exit) ≡ setContents (now (img .entry)) n w s (now (line .entry)) ⌝ }
+{
+    let b = 3 + Header::WORDS * n + w * s;
+    store_words(img, b, line, w);
+}
+
+// A slot's contents, from one image to the other: the words go as a part of the source that starts in its middle.
+pub fn copy_contents(src: &[u32], dst: &mut [u32], n: usize, w: usize, s: usize)
+    requires { ⌜ Slots (now src) (now dst) n w s ⌝ }
+    ensures { λ _. ⌜ now (dst .exit) ≡ setContents (now (dst .entry)) n w s (contents (now (src .entry)) n w s) ⌝ }
+{
+    let b = 3 + Header::WORDS * n + w * s;
+    let e = b + w;
+    set_contents(dst, n, w, s, &src[b..e]);
+}

@@ -1,0 +1,31 @@
+-- The numbers of refusals, and the order in which a call asks for them.
+use Prim.Native.Nat.{ℕ}
+use mathlib.Core.Path.{_≡_, refl, sym, _∙_}
+use mathlib.Core.Bool.{Bool, true, false, cond}
+use Rattle.reply.specs.declared.Refusal.{Refusal}
+use Rattle.reply.specs.declared.Refusal.the-variants.{Sizes, Clock, BadSlot, Duplicate, NoThread, AlreadyOpen, NotOpen, BadArgument, Newer, NoJob, JobExists, NoUid, Full, StillOpen, LastEpoch, NoLine}
+use Rattle.reply.specs.declared.Check.{Check}
+use Rattle.reply.specs.declared.Check.the-variants.{Accepted, Refused}
+
+-- 01, "Where each call can decline": the column "No."
+abbrev pub refusalNumber : Refusal → ℕ
+refusalNumber Sizes = 1
+refusalNumber Clock = 2
+refusalNumber BadSlot = 3
+refusalNumber Duplicate = 4
+refusalNumber NoThread = 5
+refusalNumber AlreadyOpen = 6
+refusalNumber NotOpen = 7
+refusalNumber BadArgument = 8
+refusalNumber Newer = 9
+refusalNumber NoJob = 10
+refusalNumber JobExists = 11
+refusalNumber NoUid = 12
+refusalNumber Full = 13
+refusalNumber StillOpen = 14
+refusalNumber LastEpoch = 15
+refusalNumber NoLine = 16
+
+-- 01: "Within a call the lowest number that applies is returned": where the condition holds that refusal, else what follows
+abbrev pub refuse : Bool → Refusal → Check → Check
+refuse b r rest = cond b (Refused r) rest

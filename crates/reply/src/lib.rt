@@ -1,0 +1,60 @@
+// Why a call declines, and the verdict that every check gives.
+ghost use mathlib.Core.Path.{_≡_};
+ghost use Rattle.reply.specs.Refusals.{refusalNumber};
+
+// One case for each number of 01's table "Where each call can decline".
+pub enum Refusal {
+    // N, W or T out of range, a wrong length, or a note that names no slot
+    Sizes,
+    // a clock out of range, unequal clocks, or a wrong open epoch
+    Clock,
+    // a header neither free nor proper, or a survivor with key 0
+    BadSlot,
+    // two kept slots equal in uid and epoch, or two survivors of one key
+    Duplicate,
+    NoThread,
+    AlreadyOpen,
+    NotOpen,
+    // key 0, or a value of a wrong length
+    BadArgument,
+    // a later epoch has this key already
+    Newer,
+    NoJob,
+    JobExists,
+    NoUid,
+    Full,
+    // an operation is open that must end first
+    StillOpen,
+    // the clock is at its end
+    LastEpoch,
+    NoLine,
+}
+
+pub enum Check {
+    Accepted,
+    Refused(Refusal),
+}
+
+// 01's number of a refusal.
+pub fn number(r: Refusal) -> u32
+    ensures { λ k. ⌜ k ≡ refusalNumber r ⌝ }
+{
+    match r {
+        Refusal::Sizes => 1,
+        Refusal::Clock => 2,
+        Refusal::BadSlot => 3,
+        Refusal::Duplicate => 4,
+        Refusal::NoThread => 5,
+        Refusal::AlreadyOpen => 6,
+        Refusal::NotOpen => 7,
+        Refusal::BadArgument => 8,
+        Refusal::Newer => 9,
+        Refusal::NoJob => 10,
+        Refusal::JobExists => 11,
+        Refusal::NoUid => 12,
+        Refusal::Full => 13,
+        Refusal::StillOpen => 14,
+        Refusal::LastEpoch => 15,
+        Refusal::NoLine => 16,
+    }
+}

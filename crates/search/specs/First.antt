@@ -1,0 +1,154 @@
+-- The first index that passes a test: its laws, and the one invariant of every loop that looks for it.
+use Prim.Native.Nat.{ℕ, zero, suc, _+_, _-_, _≤_, _<_}
+use mathlib.Core.Path.{_≡_, refl, sym, _∙_}
+use mathlib.Core.Bool.{Bool, true, false, cond}
+use mathlib.Core.Logic.{_⊎_, inl, inr, ⊎-elim}
+use lib.Dec.{ltb}
+use borrow.Author.Tests.{lt-ltb, le-ltb, ltb-true, ltb-false}
+use native.Mathlib.Nat.{eq-or-lt-of-le}
+use native.Mathlib.Omega.{arith}
+use native.Mathlib.Decide.{decLt}
+use Rattle.search.specs.Bools.{cases, never}
+use Rattle.search.specs.declared.Found.{Found}
+use Rattle.search.specs.declared.Found.the-variants.{At, Nothing}
+
+-- the least index of [i, i + k) that passes, else i + k
+unfoldable pub first : (ℕ → Bool) → ℕ → ℕ → ℕ
+first p i zero = i
+first p i (suc k) = cond (p i) i (first p (i + 1) k)
+
+-- an index r below n as an answer
+abbrev pub found : ℕ → ℕ → Found
+found n r = cond (ltb r n) (At r) Nothing
+
+-- the least index below n that passes, as an answer
+unfoldable pub firstOf : (ℕ → Bool) → ℕ → Found
+firstOf p n = found n (first p 0 n)
+
+-- from i on: at a hit, at a miss, at the end
+module _ (p : ℕ → Bool) where
+  first-hit : (i n : ℕ) → i < n → p i ≡ true → first p i (n - i) ≡ i
+  unfolding first
+  first-hit i n h e =
+      let s : n - i ≡ suc (n - (i + 1)) = omega arith in
+      rw (s, e)
+
+  first-miss : (i n : ℕ) → i < n → p i ≡ false → first p i (n - i) ≡ first p (i + 1) (n - (i + 1))
+  unfolding first
+  first-miss i n h e =
+      let s : n - i ≡ suc (n - (i + 1)) = omega arith in
+      rw (s, e)
+
+  first-end : (i n : ℕ) → n ≤ i → first p i (n - i) ≡ i
+  unfolding first
+  first-end i n h =
+      let s : n - i ≡ 0 = omega arith in
+      rw s
+
+-- where the first index lies; those before it fail; it passes
+module _ (p : ℕ → Bool) where
+  pub first-top : (k i : ℕ) → first p i k ≤ i + k
+  unfolding first
+  first-top zero i = omega arith
+  first-top (suc k) i =
+      ⊎-elim (λ t. rw t (omega arith)) (λ f. rw f (omega (arith, first-top k (i + 1)))) (cases (p i))
+
+  pub first-before : (k i j : ℕ) → i ≤ j → j < first p i k → p j ≡ false
+  unfolding first
+  first-before zero i j l h = absurd (omega arith)
+  first-before (suc k) i j l h =
+      ⊎-elim
+      (λ t. let h′ : j < i = rw t at h in absurd (omega arith))
+      (λ f. let h′ : j < first p (i + 1) k = rw f at h in
+      ⊎-elim (λ (e : i ≡ j). rw (← e) f) (λ (m : i < j). first-before k (i + 1) j (omega arith) h′) (eq-or-lt-of-le l))
+      (cases (p i))
+
+  pub first-at : (k i : ℕ) → first p i k < i + k → p (first p i k) ≡ true
+  unfolding first
+  first-at zero i h = absurd (omega arith)
+  first-at (suc k) i h =
+      ⊎-elim
+      (λ t. rw t t)
+      (λ f. let h′ : first p (i + 1) k < i + suc k = rw f at h in rw f (first-at k (i + 1) (omega arith)))
+      (cases (p i))
+
+-- two tests that agree have one first index
+pub first-same : (p q : ℕ → Bool) (k i : ℕ) → ((j : ℕ) → i ≤ j → j < i + k → p j ≡ q j) → first p i k ≡ first q i k
+unfolding first
+first-same p q zero i h = refl
+first-same p q (suc k) i h =
+    rw (h i (omega arith) (omega arith), first-same p q k (i + 1) (λ j l u. h j (omega arith) (omega arith)))
+
+-- THE invariant of a loop that has passed i of n: the answer is still to be found from i on
+pub record Sought (p : ℕ → Bool) (n i : ℕ) : Type 0 where
+  pub low : i ≤ n
+  pub same : first p 0 n ≡ first p i (n - i)
+
+pub sought-start : (p : ℕ → Bool) (n : ℕ) → Sought p n 0
+sought-start p n = record { low = omega arith; same = let e : n - 0 ≡ n = omega arith in rw e }
+
+pub sought-next : {p : ℕ → Bool} {n i : ℕ} {r : Bool} → Sought p n i → i < n → r ≡ p i → r ≡ false → Sought p n (i + 1)
+sought-next {p} {n} {i} s h e f = record { low = omega arith; same = s .same ∙ first-miss p i n h (sym e ∙ f) }
+
+pub sought-hit : {p : ℕ → Bool} {n i : ℕ} {r : Bool} → Sought p n i → i < n → r ≡ p i → r ≡ true → first p 0 n ≡ i
+sought-hit {p} {n} {i} s h e f = s .same ∙ first-hit p i n h (sym e ∙ f)
+
+pub sought-end : {p : ℕ → Bool} {n i : ℕ} → Sought p n i → n ≤ i → first p 0 n ≡ n
+sought-end {p} {n} {i} s h = s .same ∙ first-end p i n h ∙ (omega arith)
+
+-- a loop's two answers
+pub found-hit : {p : ℕ → Bool} {n i : ℕ} {r : Bool} → Sought p n i → i < n → r ≡ p i → r ≡ true → At i ≡ firstOf p n
+unfolding firstOf
+found-hit {p} {n} {i} s h e f = rw (sought-hit s h e f, lt-ltb i n h)
+
+pub found-end : {p : ℕ → Bool} {n i : ℕ} → Sought p n i → n ≤ i → Nothing ≡ firstOf p n
+unfolding firstOf
+found-end {p} {n} {i} s h = rw (sought-end s h, le-ltb n n (omega arith))
+
+-- what an answer says: a slot found is below n and the first that passes; where none is found, none passes
+pub record First (p : ℕ → Bool) (n s : ℕ) : Type 0 where
+  pub below : s < n
+  pub passes : p s ≡ true
+  pub before : (j : ℕ) → j < s → p j ≡ false
+
+pub found-first : (p : ℕ → Bool) (n : ℕ) {s : ℕ} → firstOf p n ≡ At s → First p n s
+unfolding firstOf
+found-first p n {s} e =
+    ⊎-elim
+    (λ (t : ltb (first p 0 n) n ≡ true).
+    let q : At (first p 0 n) ≡ At s = rw t at e in
+    let z : first p 0 n ≡ s = cc in
+    let u : first p 0 n < n = ltb-true _ _ t in
+    record {
+      below = omega arith;
+      passes = rw z at (first-at p n 0 (omega arith));
+      before = λ j h. first-before p n 0 j (omega arith) (omega arith);
+    })
+    (λ (f : ltb (first p 0 n) n ≡ false).
+    let q : Nothing ≡ At s = rw f at e in
+    let z : _≡_ {A = ℕ} 0 1 = cc in
+    absurd (omega arith))
+    (cases (ltb (first p 0 n) n))
+
+pub found-nothing : (p : ℕ → Bool) (n : ℕ) → firstOf p n ≡ Nothing → (j : ℕ) → j < n → p j ≡ false
+unfolding firstOf
+found-nothing p n e j h =
+    ⊎-elim
+    (λ (t : ltb (first p 0 n) n ≡ true).
+    let q : At (first p 0 n) ≡ Nothing = rw t at e in
+    let z : _≡_ {A = ℕ} 0 1 = cc in
+    absurd (omega arith))
+    (λ (f : ltb (first p 0 n) n ≡ false).
+    first-before p n 0 j (omega arith) (omega (arith, ltb-false (first p 0 n) n f)))
+    (cases (ltb (first p 0 n) n))
+
+pub firstOf-same : (p q : ℕ → Bool) (n : ℕ) → ((j : ℕ) → j < n → p j ≡ q j) → firstOf p n ≡ firstOf q n
+unfolding firstOf
+firstOf-same p q n h = rw (first-same p q n 0 (λ j l u. h j (omega arith)))
+
+-- the two answers, told apart
+pub found-cases : (f : Found) → ((s : ℕ) × (f ≡ At s)) ⊎ (f ≡ Nothing)
+found-cases (At s) = inl (s, refl)
+found-cases Nothing = inr refl
+
+pub ruleset loops = (sought-start, sought-next, found-hit, found-end)

@@ -1,0 +1,4 @@
+pub mod Bools
+pub mod First
+pub mod Some
+pub mod Count

@@ -1,0 +1,108 @@
+-- "Some" and "every" as tests over the indices below n. A loop for either is a search (`Sought`).
+use Prim.Native.Nat.{ℕ, _+_, _≤_, _<_}
+use mathlib.Core.Path.{_≡_, refl, sym, ap, _∙_}
+use mathlib.Core.Bool.{Bool, true, false, not}
+use mathlib.Core.Logic.{⊎-elim}
+use lib.Dec.{ltb}
+use borrow.Author.Tests.{lt-ltb, le-ltb, ltb-true, ltb-false, not-false, not-true}
+use native.Mathlib.Omega.{arith}
+use Rattle.search.specs.Bools.{cases, never, not-is-true, not-is-false}
+use Rattle.search.specs.First.{first, first-at, first-before, first-top, first-same, Sought, sought-start, sought-next, sought-hit, sought-end}
+
+unfoldable pub some : (ℕ → Bool) → ℕ → Bool
+some p n = ltb (first p 0 n) n
+
+unfoldable pub every : (ℕ → Bool) → ℕ → Bool
+every p n = not (some (λ s. not (p s)) n)
+
+-- ---- some
+pub some-at : (p : ℕ → Bool) (n s : ℕ) → s < n → p s ≡ true → some p n ≡ true
+unfolding some
+some-at p n s h t =
+    ⊎-elim
+    (λ (y : ltb (first p 0 n) n ≡ true). y)
+    (λ (f : ltb (first p 0 n) n ≡ false).
+    never (p s) t (first-before p n 0 s (omega arith) (omega (arith, ltb-false (first p 0 n) n f))))
+    (cases (ltb (first p 0 n) n))
+
+-- an index below n that passes
+pub record Some (p : ℕ → Bool) (n : ℕ) : Type 0 where
+  pub at : ℕ
+  pub below : at < n
+  pub passes : p at ≡ true
+
+pub some-one : (p : ℕ → Bool) (n : ℕ) → some p n ≡ true → Some p n
+unfolding some
+some-one p n t =
+    let h : first p 0 n < n = ltb-true _ _ t in
+    record { at = first p 0 n; below = h; passes = first-at p n 0 (omega arith) }
+
+pub some-none : (p : ℕ → Bool) (n : ℕ) → some p n ≡ false → (s : ℕ) → s < n → p s ≡ false
+some-none p n f s h =
+    ⊎-elim (λ (t : p s ≡ true). never (some p n) (some-at p n s h t) f) (λ (e : p s ≡ false). e) (cases (p s))
+
+pub none-some : (p : ℕ → Bool) (n : ℕ) → ((s : ℕ) → s < n → p s ≡ false) → some p n ≡ false
+none-some p n h =
+    ⊎-elim
+    (λ (t : some p n ≡ true). let a = some-one p n t in never (p (a .at)) (a .passes) (h (a .at) (a .below)))
+    (λ (f : some p n ≡ false). f)
+    (cases (some p n))
+
+pub some-same : (p q : ℕ → Bool) (n : ℕ) → ((s : ℕ) → s < n → p s ≡ q s) → some p n ≡ some q n
+unfolding some
+some-same p q n h = rw (first-same p q n 0 (λ j l u. h j (omega arith)))
+
+-- a loop's two answers
+pub some-hit : {p : ℕ → Bool} {n i : ℕ} {r : Bool} → Sought p n i → i < n → r ≡ p i → r ≡ true → true ≡ some p n
+unfolding some
+some-hit {p} {n} {i} s h e f = rw (sought-hit s h e f, lt-ltb i n h)
+
+pub some-end : {p : ℕ → Bool} {n i : ℕ} → Sought p n i → n ≤ i → false ≡ some p n
+unfolding some
+some-end {p} {n} {i} s h = rw (sought-end s h, le-ltb n n (omega arith))
+
+-- ---- every
+pub every-at : (p : ℕ → Bool) (n : ℕ) → every p n ≡ true → (s : ℕ) → s < n → p s ≡ true
+unfolding every
+every-at p n t s h = not-false (p s) (some-none (λ k. not (p k)) n (not-true _ t) s h)
+
+pub at-every : (p : ℕ → Bool) (n : ℕ) → ((s : ℕ) → s < n → p s ≡ true) → every p n ≡ true
+unfolding every
+at-every p n h = not-is-true (none-some (λ k. not (p k)) n (λ s l. not-is-false (h s l)))
+
+pub every-same : (p q : ℕ → Bool) (n : ℕ) → ((s : ℕ) → s < n → p s ≡ q s) → every p n ≡ every q n
+unfolding every
+every-same p q n h = ap not (some-same (λ s. not (p s)) (λ s. not (q s)) n (λ s l. ap not (h s l)))
+
+-- an index below n that fails
+pub record Failing (p : ℕ → Bool) (n : ℕ) : Type 0 where
+  pub at : ℕ
+  pub below : at < n
+  pub fails : p at ≡ false
+
+pub every-not : (p : ℕ → Bool) (n : ℕ) → every p n ≡ false → Failing p n
+unfolding every
+every-not p n f =
+    let a = some-one (λ k. not (p k)) n (not-false _ f) in
+    record { at = a .at; below = a .below; fails = not-true _ (a .passes) }
+
+-- a loop has passed i of n, each of which passes
+pub record Held (p : ℕ → Bool) (n i : ℕ) : Type 0 where
+  pub low : i ≤ n
+  pub sought : Sought (λ s. not (p s)) n i
+
+pub held-start : (p : ℕ → Bool) (n : ℕ) → Held p n 0
+held-start p n = record { low = omega arith; sought = sought-start (λ s. not (p s)) n }
+
+pub held-next : {p : ℕ → Bool} {n i : ℕ} {r : Bool} → Held p n i → i < n → r ≡ p i → r ≡ true → Held p n (i + 1)
+held-next h l e f = record { low = omega arith; sought = sought-next (h .sought) l (ap not e) (not-is-false f) }
+
+pub every-miss : {p : ℕ → Bool} {n i : ℕ} {r : Bool} → Held p n i → i < n → r ≡ p i → r ≡ false → false ≡ every p n
+unfolding every
+every-miss h l e f = ap not (some-hit (h .sought) l (ap not e) (not-is-true f))
+
+pub every-end : {p : ℕ → Bool} {n i : ℕ} → Held p n i → n ≤ i → true ≡ every p n
+unfolding every
+every-end h l = ap not (some-end (h .sought) l)
+
+pub ruleset loops = (some-hit, some-end, held-start, held-next, every-miss, every-end)

@@ -1,0 +1,1 @@
+//! The compiled library as its C exports show it, compared with the simulator.

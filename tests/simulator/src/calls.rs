@@ -1,0 +1,93 @@
+//! Every exported call on a store as a value, and the simulator's reply to it, a number as C sees it.
+
+use crate::epochs::Step;
+use crate::image::Sizes;
+use crate::recovery::Progress;
+use crate::store::{Refusal, Store};
+use crate::transient::Layout;
+use crate::{changes, epochs, recovery};
+
+#[derive(Clone, PartialEq, Eq, Debug)]
+pub enum Call {
+    Format { slots: u32, words: u32 },
+    Recover,
+    Begin { thread: u32 },
+    End { thread: u32 },
+    New { thread: u32, key: u32, value: Vec<u32> },
+    Set { thread: u32, key: u32, value: Vec<u32> },
+    Delete { thread: u32, key: u32 },
+    Read { thread: u32, key: u32 },
+    ReadRefusal { thread: u32, key: u32 },
+    Advance,
+    Sync,
+    WriteBack { slot: u32, line: u32 },
+}
+
+pub const WENT_ON: u64 = 0;
+pub const TICKED: u64 = 1;
+pub const DONE: u64 = 1;
+const REFUSED: u64 = 4_294_967_296;
+
+/// A refusal as the calls that answer a 64-bit number give it: "4,294,967,296 plus the number".
+pub fn refused(refusal: Refusal) -> u64 {
+    REFUSED + u64::from(refusal)
+}
+
+/// Carries the call out on the store and gives its reply.
+pub fn simulate(store: &mut Store, call: &Call) -> u64 {
+    match call {
+        Call::Format { slots, words } => plain(changes::format(store, *slots, *words)),
+        Call::Recover => wide(recovery::recover(store).map(progress_number)),
+        Call::Begin { thread } => plain(changes::begin(store, *thread)),
+        Call::End { thread } => plain(changes::end(store, *thread)),
+        Call::New { thread, key, value } => plain(changes::new(store, *thread, *key, value)),
+        Call::Set { thread, key, value } => plain(changes::set(store, *thread, *key, value)),
+        Call::Delete { thread, key } => plain(changes::delete(store, *thread, *key)),
+        Call::Read { thread, key } => wide(changes::read(store, *thread, *key).map(|place| place as u64)),
+        Call::ReadRefusal { thread, key } => plain(changes::read(store, *thread, *key).map(|_| ())),
+        Call::Advance => wide(epochs::advance(store).map(step_number)),
+        Call::Sync => wide(epochs::sync(store)),
+        Call::WriteBack { slot, line } => plain(epochs::write_back(store, *slot, *line)),
+    }
+}
+
+/// The refusal that a reply stands for, 0 for none.
+pub fn refusal_of(call: &Call, reply: u64) -> Refusal {
+    let is_wide = matches!(call, Call::Recover | Call::Read { .. } | Call::Advance | Call::Sync);
+    let refusal = if is_wide { reply.saturating_sub(REFUSED) } else { reply };
+    u32::try_from(refusal).unwrap_or(Refusal::MAX)
+}
+
+/// The length of an image in words, 0 for sizes out of range.
+pub fn image_words(slots: u32, words: u32) -> usize {
+    Sizes::new(slots, words).map_or(0, Sizes::image_words)
+}
+
+/// The length of the notes in words, 0 for sizes out of range.
+pub fn transient_words(slots: u32, threads: u32) -> usize {
+    let narrowest = 2;
+    let layout = Sizes::new(slots, narrowest).and_then(|sizes| Layout::new(sizes.slots, threads as usize));
+    layout.map_or(0, Layout::words)
+}
+
+fn plain(result: Result<(), Refusal>) -> u64 {
+    result.map_or_else(u64::from, |()| 0)
+}
+
+fn wide(result: Result<u64, Refusal>) -> u64 {
+    result.unwrap_or_else(refused)
+}
+
+fn step_number(step: Step) -> u64 {
+    match step {
+        Step::WentOn => WENT_ON,
+        Step::Ticked => TICKED,
+    }
+}
+
+fn progress_number(progress: Progress) -> u64 {
+    match progress {
+        Progress::WentOn => WENT_ON,
+        Progress::Done => DONE,
+    }
+}

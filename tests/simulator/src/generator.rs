@@ -1,0 +1,122 @@
+//! Random starts and random calls, most of them sensible for the store at hand.
+
+use crate::calls::{image_words, simulate, transient_words, Call, WENT_ON};
+use crate::damage::{acceptable_image, any_clock, edge_word};
+use crate::image::Sizes;
+use crate::random::Random;
+use crate::store::{Entry, Store};
+use crate::trace::Trace;
+
+/// A store whose three slices have the right lengths and hold any words.
+pub fn unformatted(random: &mut Random, slots: u32, words: u32, threads: u32) -> Store {
+    let image = image_words(slots, words);
+    Store {
+        working: random.junk(image),
+        persistent: random.junk(image),
+        transient: random.junk(transient_words(slots, threads)),
+    }
+}
+
+/// What format left, or what recover left of an image it accepts.
+pub fn start(random: &mut Random, slots: u32) -> Store {
+    let most_words = random.pick(&[3, 4, 4, 9]);
+    let words = random.between(2, most_words);
+    let most_threads = random.pick(&[2, 3, 3, 16]);
+    let threads = random.between(1, most_threads);
+    let mut store = unformatted(random, slots, words, threads);
+    if random.chance(40) {
+        assert_eq!(simulate(&mut store, &Call::Format { slots, words }), 0);
+        return store;
+    }
+    let sizes = Sizes::new(slots, words).expect("the sizes are in range");
+    let clock = any_clock(random);
+    let filled = if random.chance(50) { slots as usize } else { slots as usize / 2 };
+    store.persistent = acceptable_image(random, sizes, clock, filled);
+    while simulate(&mut store, &Call::Recover) == WENT_ON {}
+    store
+}
+
+/// A start and calls on it, made up by watching the simulator.
+pub fn trace(random: &mut Random, slots: u32, length: usize) -> Trace {
+    let start = start(random, slots);
+    let mut store = start.clone();
+    let mix = Mix { advances: random.pick(&[15, 45, 65]), keys: random.between(2, slots + 2) };
+    let mut calls = Vec::new();
+    for _ in 0..length {
+        let call = any_call(random, &store, mix);
+        simulate(&mut store, &call);
+        calls.push(call);
+    }
+    Trace { start, calls }
+}
+
+/// How often a call has to do with epochs, in percent, and how many keys are in play.
+#[derive(Clone, Copy)]
+pub struct Mix {
+    pub advances: usize,
+    pub keys: u32,
+}
+
+/// A call of a run: any but format and recover.
+pub fn any_call(random: &mut Random, store: &Store, mix: Mix) -> Call {
+    if random.chance(mix.advances) { epoch_call(random, store) } else { job_call(random, store, mix.keys) }
+}
+
+fn epoch_call(random: &mut Random, store: &Store) -> Call {
+    match random.below(20) {
+        0 => Call::Sync,
+        1..=4 => line_written_back(random, store),
+        _ => Call::Advance,
+    }
+}
+
+fn line_written_back(random: &mut Random, store: &Store) -> Call {
+    let slots = store.working.first().map_or(2, |&slots| slots.clamp(2, 1024));
+    if random.chance(10) {
+        return Call::WriteBack { slot: edge_word(random, slots), line: edge_word(random, 1) };
+    }
+    Call::WriteBack { slot: random.below(slots as usize) as u32, line: random.between(0, 1) }
+}
+
+/// Begin, end, new, set, delete or read.
+pub fn job_call(random: &mut Random, store: &Store, keys: u32) -> Call {
+    let entry = store.enter().ok();
+    let threads = entry.map_or(2, |entry| entry.layout.threads);
+    let thread = random.below(threads) as u32;
+    let is_open = entry.is_some_and(|entry| entry.open(store, thread as usize) != 0);
+    let thread = if random.chance(97) { thread } else { edge_word(random, threads as u32) };
+    let roll = random.below(100);
+    match (is_open, roll) {
+        (true, 0..=17) | (false, 0..=4) => Call::End { thread },
+        (true, 18..=20) | (false, 5..=79) => Call::Begin { thread },
+        _ => key_call(random, store, entry, thread, keys),
+    }
+}
+
+fn key_call(random: &mut Random, store: &Store, entry: Option<Entry>, thread: u32, keys: u32) -> Call {
+    let roll = random.below(100);
+    let key = any_key(random, store, entry, keys, roll >= 35);
+    let value_words = entry.map_or(1, |entry| entry.sizes.value_words());
+    let length = if random.chance(97) { value_words } else { random.below(10) };
+    match roll {
+        0..=34 => Call::New { thread, key, value: random.junk(length) },
+        35..=62 => Call::Set { thread, key, value: random.junk(length) },
+        63..=88 => Call::Delete { thread, key },
+        89..=95 => Call::Read { thread, key },
+        _ => Call::ReadRefusal { thread, key },
+    }
+}
+
+/// A key of the board, most often one that some slot holds where that is wanted.
+fn any_key(random: &mut Random, store: &Store, entry: Option<Entry>, keys: u32, wants_held: bool) -> u32 {
+    if random.chance(2) {
+        return edge_word(random, keys);
+    }
+    match entry {
+        Some(entry) if wants_held && random.chance(80) => {
+            let held: Vec<usize> = entry.slots().filter(|&slot| entry.header(store, slot).is_filled()).collect();
+            if held.is_empty() { 1 } else { entry.sizes.key(&store.working, random.pick(&held)) }
+        }
+        _ => random.between(1, keys),
+    }
+}

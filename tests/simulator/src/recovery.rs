@@ -1,0 +1,101 @@
+//! Recovery, and what it takes an image to mean.
+
+use crate::image::{clock_in_range, Header, Sizes, CLOCK, DELETE};
+use crate::store::{Refusal, Store};
+use crate::transient::Layout;
+use std::collections::BTreeMap;
+
+#[derive(Clone, Copy, PartialEq, Eq, Debug)]
+pub enum Progress {
+    WentOn,
+    Done,
+}
+
+/// Jobs by key.
+pub type Jobs = BTreeMap<u32, Vec<u32>>;
+
+/// An image that recovery accepts.
+pub struct Accepted {
+    pub sizes: Sizes,
+    pub clock: u32,
+    pub survivors: Vec<usize>,
+}
+
+/// Refusals 1 to 4, judged on the image alone.
+pub fn judge(image: &[u32]) -> Result<Accepted, Refusal> {
+    let sizes = Sizes::of(image).ok_or(1u32)?;
+    let clock = image[CLOCK];
+    if !clock_in_range(clock) {
+        return Err(2);
+    }
+    let headers = sizes.headers(image);
+    if headers.iter().any(|header| !header.is_proper(clock)) {
+        return Err(3);
+    }
+    let survivors: Vec<usize> = (0..sizes.slots).filter(|&slot| survives(&headers, clock, slot)).collect();
+    let keys: Vec<u32> = survivors.iter().map(|&slot| sizes.key(image, slot)).collect();
+    if keys.contains(&0) {
+        return Err(3);
+    }
+    let kept = headers.iter().filter(|header| header.is_kept(clock));
+    let versions = kept.map(|header| (header.uid, header.epoch)).collect();
+    if has_equals(versions) || has_equals(keys) {
+        return Err(4);
+    }
+    Ok(Accepted { sizes, clock, survivors })
+}
+
+/// "Of kept slots with one uid the largest label wins; a winner of kind 1 or 2 survives."
+fn survives(headers: &[Header], clock: u32, slot: usize) -> bool {
+    let mine = headers[slot];
+    let beats_mine = |other: &Header| other.is_kept(clock) && other.uid == mine.uid && other.epoch > mine.epoch;
+    mine.is_kept(clock) && mine.is_payload() && !headers.iter().any(beats_mine)
+}
+
+fn has_equals<T: Ord>(mut items: Vec<T>) -> bool {
+    items.sort();
+    items.windows(2).any(|pair| pair[0] == pair[1])
+}
+
+/// "each call checks, frees the next such mark, leaves working and notes alone and replies "went on". The call
+/// that finds none to free replies "done"; only there does working become a copy and are the notes set."
+pub fn recover(store: &mut Store) -> Result<Progress, Refusal> {
+    let sizes = Sizes::of(&store.persistent).ok_or(1u32)?;
+    let layout = Layout::of(store.transient.len(), sizes.slots).ok_or(1u32)?;
+    if store.working.len() != store.persistent.len() {
+        return Err(1);
+    }
+    let accepted = judge(&store.persistent)?;
+    if let Some(slot) = next_to_free(&store.persistent, &accepted) {
+        sizes.set_header(&mut store.persistent, slot, Header::FREE);
+        return Ok(Progress::WentOn);
+    }
+    store.working = store.persistent.clone();
+    store.transient = layout.blank(next_uid(&store.persistent, &accepted));
+    Ok(Progress::Done)
+}
+
+/// "first, in slot order, every filled slot that neither survives nor is a kept DELETE; then, in slot order,
+/// the kept DELETEs"
+fn next_to_free(image: &[u32], accepted: &Accepted) -> Option<usize> {
+    let headers = accepted.sizes.headers(image);
+    let is_kept_delete = |slot: usize| headers[slot].kind == DELETE && headers[slot].is_kept(accepted.clock);
+    let is_first_pass =
+        |slot: usize| headers[slot].is_filled() && !accepted.survivors.contains(&slot) && !is_kept_delete(slot);
+    let mut first_pass = 0..headers.len();
+    let mut second_pass = 0..headers.len();
+    first_pass.find(|&slot| is_first_pass(slot)).or_else(|| second_pass.find(|&slot| is_kept_delete(slot)))
+}
+
+/// "The next uid is one more than the largest surviving uid, 1 if none."
+fn next_uid(image: &[u32], accepted: &Accepted) -> u32 {
+    let uids = accepted.survivors.iter().map(|&slot| accepted.sizes.header(image, slot).uid);
+    uids.max().unwrap_or(0) + 1
+}
+
+/// The surviving jobs of an image: "the same keys, each once, the same value words".
+pub fn surviving_jobs(image: &[u32]) -> Result<Jobs, Refusal> {
+    let accepted = judge(image)?;
+    let job = |&slot: &usize| (accepted.sizes.key(image, slot), accepted.sizes.value(image, slot));
+    Ok(accepted.survivors.iter().map(job).collect())
+}

@@ -1,0 +1,137 @@
+//! The stored images: named byte strings for the lister and the server's questions.
+
+use crate::image::{Header, Sizes, ALLOC, CLOCK, DELETE, LARGEST, UPDATE};
+use crate::lister::bytes_of;
+
+/// The paper's example: "For words 2 2 7, 1 5 1, 2 6 1, 10 100, 10 200"
+pub const EXAMPLE: [u32; 13] = [2, 2, 7, 1, 5, 1, 2, 6, 1, 10, 100, 10, 200];
+
+/// A slot to be filled: kind, label, uid, key; its value words count up from 1000 times the key.
+type Filled = (u32, u32, u32, u32);
+
+/// An image with these slots from 0 on, the others free with old words in their contents.
+pub fn image_with(slots: u32, words: u32, clock: u32, filled: &[Filled]) -> Vec<u32> {
+    let sizes = Sizes::new(slots, words).expect("a stored image has sizes in range");
+    let mut image = vec![77; sizes.image_words()];
+    image[0] = slots;
+    image[1] = words;
+    image[CLOCK] = clock;
+    for slot in 0..sizes.slots {
+        sizes.set_header(&mut image, slot, Header::FREE);
+    }
+    for (slot, &(kind, epoch, uid, key)) in filled.iter().enumerate() {
+        let value: Vec<u32> = (0..words - 1).map(|word| key.wrapping_mul(1000).wrapping_add(word)).collect();
+        sizes.set_header(&mut image, slot, Header { kind, epoch, uid });
+        sizes.set_contents(&mut image, slot, key, &value);
+    }
+    image
+}
+
+/// 1,024 jobs of 8 value words; the last word is the largest there is.
+pub fn full_largest() -> Vec<u32> {
+    let jobs: Vec<Filled> = (1..=1024).map(|job| (ALLOC, 2 + job % 40, job, LARGEST + job)).collect();
+    let mut image = image_with(1024, 9, 50, &jobs);
+    *image.last_mut().expect("an image has words") = u32::MAX;
+    image
+}
+
+/// Every stored image with its name.
+pub fn stored_images() -> Vec<(String, Vec<u8>)> {
+    let mut all = Vec::new();
+    for (name, image) in accepted().into_iter().chain(refused_2()).chain(refused_3()).chain(refused_4()) {
+        all.push((name.to_string(), bytes_of(&image)));
+    }
+    all.extend(refused_1().into_iter().map(|(name, bytes)| (name.to_string(), bytes)));
+    all
+}
+
+fn accepted() -> Vec<(&'static str, Vec<u32>)> {
+    let versions =
+        [(ALLOC, 2, 1, 5), (UPDATE, 6, 1, 5), (ALLOC, 3, 2, 6), (DELETE, 5, 2, 6), (UPDATE, 4, 3, 9), (ALLOC, 8, 4, 7)];
+    let zero_value = [2, 3, 4, ALLOC, 2, LARGEST, 0, 0, 0, u32::MAX, 0, 0, 1, 2, 3];
+    vec![
+        ("example", EXAMPLE.to_vec()),
+        ("empty-board", image_with(2, 2, 2, &[])),
+        ("jobs-in-many-versions", image_with(8, 4, 8, &versions)),
+        ("zero-value-words", zero_value.to_vec()),
+        ("clock-at-its-end", image_with(3, 2, LARGEST, &[(ALLOC, LARGEST - 2, 1, 8), (UPDATE, LARGEST - 1, 1, 8)])),
+        ("delete-not-yet-kept", image_with(2, 2, 8, &[(ALLOC, 5, 1, 3), (DELETE, 7, 1, 3)])),
+        ("delete-kept", image_with(2, 2, 9, &[(ALLOC, 5, 1, 3), (DELETE, 7, 1, 3)])),
+        ("key-zero-not-surviving", image_with(3, 2, 9, &[(ALLOC, 5, 1, 0), (UPDATE, 6, 1, 3), (DELETE, 7, 2, 0)])),
+        ("equal-labels-not-kept", image_with(3, 2, 9, &[(ALLOC, 8, 1, 3), (UPDATE, 8, 1, 3), (ALLOC, 2, 2, 3)])),
+        ("full-largest", full_largest()),
+        ("empty-largest", image_with(1024, 9, 2, &[])),
+    ]
+}
+
+fn refused_1() -> Vec<(&'static str, Vec<u8>)> {
+    let example = bytes_of(&EXAMPLE);
+    let largest = bytes_of(&full_largest());
+    let with_size = |place: usize, word: u32| {
+        let mut image = EXAMPLE;
+        image[place] = word;
+        bytes_of(&image)
+    };
+    vec![
+        ("no-bytes", Vec::new()),
+        ("one-byte", vec![2]),
+        ("sizes-alone", example[..8].to_vec()),
+        ("one-byte-short", example[..51].to_vec()),
+        ("one-byte-long", [&example[..], &[0]].concat()),
+        ("one-word-short", example[..48].to_vec()),
+        ("one-word-long", [&example[..], &[0; 4]].concat()),
+        ("one-byte-more-than-largest", [&largest[..], &[0]].concat()),
+        ("one-word-more-than-largest", [&largest[..], &[0; 4]].concat()),
+        ("largest-twice", [&largest[..], &largest[..]].concat()),
+        ("one-slot", bytes_of(&[1, 2, 7, 1, 5, 1, 10, 100])),
+        ("too-many-slots", with_size(0, 1025)),
+        ("slots-do-not-fit", with_size(0, 3)),
+        ("slots-wrap-around", with_size(0, 0x8000_0002)),
+        ("one-word-of-contents", bytes_of(&[2, 1, 7, 0, 0, 0, 0, 0, 0, 1, 1])),
+        ("ten-words-of-contents", bytes_of(&[[2, 10, 7].as_slice(), &[0; 26]].concat())),
+        ("highest-byte-first", EXAMPLE.iter().flat_map(|word| word.to_be_bytes()).collect()),
+    ]
+}
+
+fn refused_2() -> Vec<(&'static str, Vec<u32>)> {
+    let with_clock = |clock: u32| image_with(2, 2, clock, &[(0, 0, 0, 3), (9, 9, 9, 9)]);
+    vec![
+        ("clock-0", with_clock(0)),
+        ("clock-1", with_clock(1)),
+        ("clock-past-its-end", with_clock(LARGEST + 1)),
+        ("clock-all-ones", with_clock(u32::MAX)),
+    ]
+}
+
+fn refused_3() -> Vec<(&'static str, Vec<u32>)> {
+    let equal = [(ALLOC, 5, 1, 3), (ALLOC, 5, 1, 3)];
+    let mark = |header: Filled| image_with(4, 3, 9, &[equal[0], equal[1], header]);
+    vec![
+        ("kind-4", mark((4, 5, 2, 7))),
+        ("free-with-label", mark((0, 5, 0, 7))),
+        ("free-with-uid", mark((0, 0, 2, 7))),
+        ("label-0", mark((ALLOC, 0, 2, 7))),
+        ("label-1", mark((UPDATE, 1, 2, 7))),
+        ("label-above-clock", mark((DELETE, 10, 2, 7))),
+        ("uid-0", mark((ALLOC, 5, 0, 7))),
+        ("uid-past-its-end", mark((DELETE, 5, LARGEST + 1, 7))),
+        ("survivor-with-key-0", image_with(3, 3, 9, &[(ALLOC, 5, 1, 3), (ALLOC, 7, 2, 0)])),
+        ("equal-survivors-with-key-0", image_with(3, 3, 9, &[(ALLOC, 5, 1, 3), (UPDATE, 5, 1, 0)])),
+    ]
+}
+
+fn refused_4() -> Vec<(&'static str, Vec<u32>)> {
+    vec![
+        ("equal-uid-and-label", image_with(3, 2, 9, &[(ALLOC, 5, 1, 3), (UPDATE, 5, 1, 4)])),
+        ("equal-uid-and-label-of-deletes", image_with(3, 2, 9, &[(DELETE, 5, 1, 3), (DELETE, 5, 1, 4)])),
+        ("equal-and-beaten", image_with(3, 2, 9, &[(ALLOC, 5, 1, 3), (UPDATE, 5, 1, 3), (UPDATE, 7, 1, 3)])),
+        ("equal-keys", image_with(2, 2, 9, &[(ALLOC, 5, 1, 3), (UPDATE, 6, 2, 3)])),
+        ("equal-keys-far-apart", {
+            let mut image = full_largest();
+            let sizes = Sizes::of(&image).expect("the largest image fits its sizes");
+            let first = sizes.key(&image, 0);
+            image[sizes.contents_line(1023).start] = first;
+            image
+        }),
+    ]
+}

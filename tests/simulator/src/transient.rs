@@ -1,0 +1,62 @@
+//! The layout of the notes: 4 + T + 3N words, T being what their length leaves.
+
+use crate::image::LARGEST;
+
+/// "the last slot taken", "the next uid", and the place of an advance: phase and slot.
+pub const LAST_TAKEN: usize = 0;
+pub const NEXT_UID: usize = 1;
+pub const PHASE: usize = 2;
+pub const PLACE_SLOT: usize = 3;
+const PREFIX: usize = 4;
+
+/// Where things stand in the notes of a board of so many slots and threads.
+#[derive(Clone, Copy, PartialEq, Eq, Debug)]
+pub struct Layout {
+    pub slots: usize,
+    pub threads: usize,
+}
+
+impl Layout {
+    /// "T threads (1 to 16)"
+    pub fn new(slots: usize, threads: usize) -> Option<Layout> {
+        (1..=16).contains(&threads).then_some(Layout { slots, threads })
+    }
+
+    pub fn of(length: usize, slots: usize) -> Option<Layout> {
+        Layout::new(slots, length.checked_sub(PREFIX + 3 * slots)?)
+    }
+
+    pub fn words(self) -> usize {
+        PREFIX + self.threads + 3 * self.slots
+    }
+
+    pub fn open(self, thread: usize) -> usize {
+        PREFIX + thread
+    }
+
+    pub fn retired(self, slot: usize) -> usize {
+        PREFIX + self.threads + slot
+    }
+
+    /// The flag of a slot in the waiting list of an epoch, which is the clock or one below it.
+    pub fn waiting(self, epoch: u32, slot: usize) -> usize {
+        let list = if epoch % 2 == 0 { 1 } else { 2 };
+        PREFIX + self.threads + list * self.slots + slot
+    }
+
+    /// "Nothing is open, retired, waiting or underway", and the search begins at slot 0.
+    pub fn blank(self, next_uid: u32) -> Vec<u32> {
+        let mut transient = vec![0; self.words()];
+        transient[LAST_TAKEN] = self.slots as u32 - 1;
+        transient[NEXT_UID] = next_uid;
+        transient
+    }
+
+    /// "a note naming a slot not below N, or a next uid outside 1 to 4,000,000,001"
+    pub fn are_in_range(self, transient: &[u32]) -> bool {
+        let names_slot = |word: u32| (word as usize) < self.slots;
+        names_slot(transient[LAST_TAKEN])
+            && names_slot(transient[PLACE_SLOT])
+            && (1..=LARGEST + 1).contains(&transient[NEXT_UID])
+    }
+}

@@ -1,0 +1,57 @@
+//! The simulator against the reference map and against arbitrary words.
+
+use simulator::calls::{refusal_of, simulate, Call};
+use simulator::damage::{damage_length, damage_word};
+use simulator::generator::{any_call, start, trace, unformatted, Mix};
+use simulator::random::Random;
+use simulator::store::Store;
+use simulator::trace::{replay, shrink, simulated, Counts};
+
+#[test]
+fn every_crash_leaves_the_reference_map() {
+    let mut counts = Counts::default();
+    for seed in 0..600 {
+        let mut random = Random::new(seed);
+        let slots = random.between(2, 10);
+        let trace = trace(&mut random, slots, 120);
+        if replay(&trace, &mut simulated, &mut counts).is_err() {
+            panic!("seed {seed}: {}", shrink(trace, &mut simulated));
+        }
+    }
+    println!("seeds 0 to 599, {} calls, {} crashes, {} went on", counts.calls, counts.crashes, counts.went_on);
+    println!("refusals {:?}", counts.refusals);
+    assert!(counts.crashes > 20_000 && counts.went_on > 20_000);
+    assert!(counts.refusals[5..].iter().all(|&seen| seen >= 20), "{:?}", counts.refusals);
+}
+
+#[test]
+fn every_call_is_total_and_a_refusal_changes_nothing() {
+    let mut random = Random::new(7);
+    for round in 0..20_000 {
+        let mut store = damaged(&mut random);
+        for _ in 0..10 {
+            let call = match random.below(10) {
+                0 => Call::Recover,
+                1 => Call::Format { slots: random.between(0, 6), words: random.between(0, 6) },
+                _ => any_call(&mut random, &store, Mix { advances: 45, keys: 4 }),
+            };
+            let before = store.clone();
+            let reply = simulate(&mut store, &call);
+            assert!(refusal_of(&call, reply) == 0 || store == before, "round {round}: {call:?} on {before:?}");
+        }
+    }
+}
+
+fn damaged(random: &mut Random) -> Store {
+    let slots = random.between(2, 6);
+    let mut store = if random.chance(20) { unformatted(random, slots, 3, 2) } else { start(random, slots) };
+    for _ in 0..random.below(4) {
+        let Store { working, persistent, transient } = &mut store;
+        let slice = [working, persistent, transient].into_iter().nth(random.below(3)).expect("there are three");
+        damage_word(random, slice);
+        if random.chance(10) {
+            damage_length(random, slice);
+        }
+    }
+    store
+}

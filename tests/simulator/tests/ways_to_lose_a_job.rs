@@ -1,0 +1,102 @@
+//! The five "Ways to lose a job", each as a run in which the job must not be lost or come back.
+
+use simulator::calls::{refused, simulate, Call, DONE, TICKED, WENT_ON};
+use simulator::image::{ALLOC, DELETE, UPDATE};
+use simulator::random::Random;
+use simulator::recovery::{judge, surviving_jobs, Jobs};
+use simulator::store::Store;
+use simulator::stored::image_with;
+
+fn fresh(slots: u32, threads: u32) -> Store {
+    let mut store = simulator::generator::unformatted(&mut Random::new(1), slots, 2, threads);
+    assert_eq!(simulate(&mut store, &Call::Format { slots, words: 2 }), 0);
+    store
+}
+
+fn make(store: &mut Store, calls: &[Call]) {
+    for call in calls {
+        assert_eq!(simulate(store, call), 0, "{call:?}");
+    }
+}
+
+fn tick(store: &mut Store) {
+    while simulate(store, &Call::Advance) != TICKED {}
+}
+
+/// What recovery leaves of the store as it is now.
+fn jobs_after_crash(store: &Store) -> Jobs {
+    let mut crashed = store.clone();
+    while simulate(&mut crashed, &Call::Recover) == WENT_ON {}
+    surviving_jobs(&crashed.working).unwrap()
+}
+
+fn new(thread: u32, key: u32) -> Call {
+    Call::New { thread, key, value: vec![key] }
+}
+
+fn delete(thread: u32, key: u32) -> Call {
+    Call::Delete { thread, key }
+}
+
+const BEGIN: Call = Call::Begin { thread: 0 };
+const END: Call = Call::End { thread: 0 };
+
+#[test]
+fn a_delete_outlasts_the_record_it_covers() {
+    let mut store = fresh(3, 1);
+    make(&mut store, &[BEGIN, new(0, 1), delete(0, 1), new(0, 2), delete(0, 2), new(0, 3), END]);
+    tick(&mut store);
+    tick(&mut store);
+    make(&mut store, &[BEGIN, delete(0, 3), END]);
+    assert_eq!((store.working[3], store.working[9]), (DELETE, ALLOC), "the DELETE stands before its record");
+    tick(&mut store);
+    tick(&mut store);
+    while store.persistent[2] < 9 {
+        assert!(jobs_after_crash(&store).is_empty(), "the deleted job is back at clock {}", store.persistent[2]);
+        simulate(&mut store, &Call::Advance);
+    }
+}
+
+#[test]
+fn a_stray_copy_of_a_slot_freed_at_once_does_not_return() {
+    let mut store = fresh(3, 1);
+    let stray = [Call::WriteBack { slot: 0, line: 0 }, Call::WriteBack { slot: 0, line: 1 }];
+    make(&mut store, &[BEGIN, new(0, 1)]);
+    make(&mut store, &stray);
+    make(&mut store, &[delete(0, 1), END]);
+    assert_eq!(store.persistent[3], ALLOC);
+    assert_ne!(simulate(&mut store, &Call::Sync), refused(14));
+    assert!(jobs_after_crash(&store).is_empty());
+}
+
+#[test]
+fn an_older_operation_cannot_make_a_key_that_a_newer_one_deleted() {
+    let mut store = fresh(4, 2);
+    make(&mut store, &[BEGIN, new(0, 1), END]);
+    tick(&mut store);
+    tick(&mut store);
+    make(&mut store, &[BEGIN]);
+    tick(&mut store);
+    make(&mut store, &[Call::Begin { thread: 1 }, delete(1, 1), Call::End { thread: 1 }]);
+    assert_eq!(simulate(&mut store, &new(0, 1)), 9);
+    make(&mut store, &[END]);
+    tick(&mut store);
+    assert_eq!((store.persistent[2], jobs_after_crash(&store).len()), (6, 1));
+}
+
+#[test]
+fn a_label_one_below_the_clock_is_not_kept() {
+    let image = image_with(2, 2, 7, &[(ALLOC, 5, 1, 3), (UPDATE, 6, 1, 3)]);
+    assert_eq!(judge(&image).unwrap().survivors, [0]);
+}
+
+#[test]
+fn recovery_frees_a_kept_delete_after_its_payload() {
+    let image = image_with(2, 2, 9, &[(DELETE, 6, 1, 3), (ALLOC, 5, 1, 3)]);
+    let mut store = Store { working: image.clone(), persistent: image, transient: vec![0; 11] };
+    assert_eq!(simulate(&mut store, &Call::Recover), WENT_ON);
+    assert_eq!(&store.persistent[3..9], [DELETE, 6, 1, 0, 0, 0]);
+    assert_eq!(simulate(&mut store, &Call::Recover), WENT_ON);
+    assert_eq!(&store.persistent[3..9], [0; 6]);
+    assert_eq!(simulate(&mut store, &Call::Recover), DONE);
+}

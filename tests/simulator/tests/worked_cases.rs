@@ -1,0 +1,148 @@
+//! The cases under "Contracts and cases" and the lister's example.
+
+use simulator::calls::{image_words, refused, simulate, transient_words, Call, DONE, TICKED};
+use simulator::image::{Header, ALLOC, DELETE, UPDATE};
+use simulator::lister::{bytes_of, clock_answer, listing, survivors_answer};
+use simulator::random::Random;
+use simulator::recovery::judge;
+use simulator::store::Store;
+use simulator::stored::{image_with, stored_images, EXAMPLE};
+
+fn fresh(slots: u32, words: u32, threads: u32) -> Store {
+    let mut random = Random::new(1);
+    let mut store = simulator::generator::unformatted(&mut random, slots, words, threads);
+    assert_eq!(simulate(&mut store, &Call::Format { slots, words }), 0);
+    store
+}
+
+fn make(store: &mut Store, calls: &[Call]) {
+    for call in calls {
+        assert_eq!(simulate(store, call), 0, "{call:?}");
+    }
+}
+
+/// Advance calls up to a tick; gives their number.
+fn tick(store: &mut Store) -> u64 {
+    for lines in 1.. {
+        match simulate(store, &Call::Advance) {
+            0 => {}
+            TICKED => return lines,
+            other => panic!("advance replies {other}"),
+        }
+    }
+    unreachable!("an advance ticks")
+}
+
+fn new(key: u32) -> Call {
+    Call::New { thread: 0, key, value: vec![key] }
+}
+
+const BEGIN: Call = Call::Begin { thread: 0 };
+const END: Call = Call::End { thread: 0 };
+
+#[test]
+fn a_slot_is_kept_from_label_plus_two_on() {
+    let kept = |epoch, clock| Header { kind: ALLOC, epoch, uid: 1 }.is_kept(clock);
+    assert!(kept(5, 7) && !kept(6, 7) && !kept(2, 3) && kept(2, 4));
+}
+
+#[test]
+fn lengths_are_exact() {
+    assert_eq!([image_words(2, 2), image_words(1024, 9)], [13, 12_291]);
+    assert_eq!([image_words(1, 2), image_words(1025, 2), image_words(2, 1), image_words(2, 10)], [0; 4]);
+    assert_eq!([transient_words(2, 1), transient_words(1024, 16)], [11, 3092]);
+    assert_eq!([transient_words(2, 0), transient_words(2, 17), transient_words(1, 1)], [0; 3]);
+}
+
+#[test]
+fn a_payload_retired_in_4_is_freed_by_the_advance_from_6_and_its_delete_by_that_from_7() {
+    let mut store = fresh(4, 2, 1);
+    make(&mut store, &[BEGIN, new(9), END]);
+    tick(&mut store);
+    tick(&mut store);
+    make(&mut store, &[BEGIN, Call::Delete { thread: 0, key: 9 }, END]);
+    tick(&mut store);
+    tick(&mut store);
+    assert_eq!((store.persistent[2], &store.persistent[3..9]), (6, &[1, 2, 1, 3, 4, 1][..]));
+    tick(&mut store);
+    assert_eq!((store.persistent[2], &store.persistent[3..9]), (7, &[0, 0, 0, 3, 4, 1][..]));
+    tick(&mut store);
+    assert_eq!((store.persistent[2], &store.persistent[3..9]), (8, &[0, 0, 0, 0, 0, 0][..]));
+}
+
+#[test]
+fn an_alloc_survives_until_its_delete_is_kept() {
+    let survivors = |clock| judge(&image_with(2, 2, clock, &[(ALLOC, 5, 1, 3), (DELETE, 7, 1, 3)])).unwrap().survivors;
+    assert_eq!(survivors(8), [0]);
+    assert!(survivors(9).is_empty());
+}
+
+#[test]
+fn sizes_out_of_range_decline_with_1() {
+    for (slots, words, threads) in [(1, 2, 1), (1025, 2, 1), (2, 1, 1), (2, 10, 1), (2, 2, 0), (2, 2, 17)] {
+        let image = (3 + 3 * slots + words * slots) as usize;
+        let notes = (4 + threads + 3 * slots) as usize;
+        let mut store = Store { working: vec![0; image], persistent: vec![0; image], transient: vec![0; notes] };
+        for head in [&mut store.working, &mut store.persistent] {
+            head[..3].copy_from_slice(&[slots, words, 2]);
+        }
+        store.transient[1] = 1;
+        let before = store.clone();
+        assert_eq!(simulate(&mut store, &Call::Format { slots, words }), 1);
+        assert_eq!(simulate(&mut store, &Call::Recover), refused(1));
+        assert_eq!(simulate(&mut store, &BEGIN), 1);
+        assert_eq!(store, before);
+    }
+}
+
+#[test]
+fn a_sync_after_one_fresh_job_stores_4_lines() {
+    let mut store = fresh(2, 2, 1);
+    make(&mut store, &[BEGIN, new(9), END]);
+    assert_eq!(simulate(&mut store, &Call::Sync), 4);
+    assert_eq!(store.persistent, [2, 2, 4, 1, 2, 1, 0, 0, 0, 9, 9, 0, 0]);
+}
+
+#[test]
+fn a_board_of_2_with_one_job_is_full_and_can_be_emptied() {
+    let mut store = fresh(2, 2, 1);
+    make(&mut store, &[BEGIN, new(9)]);
+    assert_eq!(simulate(&mut store, &new(8)), 13);
+    make(&mut store, &[END]);
+    tick(&mut store);
+    make(&mut store, &[BEGIN]);
+    assert_eq!(simulate(&mut store, &Call::Set { thread: 0, key: 9, value: vec![1] }), 13);
+    make(&mut store, &[Call::Delete { thread: 0, key: 9 }, END]);
+    assert_eq!(simulate(&mut store, &Call::Read { thread: 0, key: 9 }), refused(10));
+}
+
+#[test]
+fn recovery_sets_the_next_uid_and_begins_at_slot_0() {
+    let image = image_with(3, 2, 9, &[(ALLOC, 5, 6, 3), (UPDATE, 8, 7, 4)]);
+    let mut store = Store { working: vec![1; 18], persistent: image, transient: vec![1; 14] };
+    assert_eq!(simulate(&mut store, &Call::Recover), 0);
+    assert_eq!((store.working[0], store.transient[1]), (1, 1));
+    assert_eq!(simulate(&mut store, &Call::Recover), DONE);
+    assert_eq!(store.working, store.persistent);
+    assert_eq!(store.transient, [&[2, 7][..], &[0; 12]].concat());
+}
+
+#[test]
+fn the_lister_prints_the_example() {
+    let bytes = bytes_of(&EXAMPLE);
+    assert_eq!(listing(&bytes), "clock 7 survivors 1\n0 10 100\n");
+    assert_eq!((clock_answer(&bytes), survivors_answer(&bytes)), (7, 1));
+    assert_eq!(listing(&bytes[..51]), "refused 1\n");
+    assert_eq!(clock_answer(&[]), 4_294_967_297);
+}
+
+#[test]
+fn each_stored_image_is_refused_as_its_name_says() {
+    let first_words: Vec<(String, String)> = stored_images()
+        .into_iter()
+        .map(|(name, bytes)| (name, listing(&bytes).lines().next().unwrap().to_string()))
+        .collect();
+    let count = |line: &str| first_words.iter().filter(|(_, first)| first == line).count();
+    let counts = ["refused 1", "refused 2", "refused 3", "refused 4"].map(count);
+    assert_eq!((counts, first_words.len()), ([17, 4, 10, 5], 47), "{first_words:#?}");
+}
