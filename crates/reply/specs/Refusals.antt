@@ -29,3 +29,8 @@ refusalNumber NoLine = 16
 -- 01: "Within a call the lowest number that applies is returned": where the condition holds that refusal, else what follows
 abbrev pub refuse : Bool → Refusal → Check → Check
 refuse b r rest = cond b (Refused r) rest
+
+-- one check, and where it accepts the next
+abbrev pub andThen : Check → Check → Check
+andThen Accepted next = next
+andThen (Refused r) next = Refused r

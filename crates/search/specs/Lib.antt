@@ -2,3 +2,4 @@ pub mod Bools
 pub mod First
 pub mod Some
 pub mod Count
+pub mod Largest

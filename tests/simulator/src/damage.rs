@@ -113,7 +113,9 @@ pub fn any_image(random: &mut Random, sizes: Sizes) -> Vec<u32> {
         0..=5 => acceptable_image(random, sizes, clock, sizes.slots),
         _ => crowded_image(random, sizes, clock),
     };
-    if random.chance(20) {
+    if random.chance(4) {
+        image[CLOCK] = random.pick(&[0, 1, LARGEST + 1, u32::MAX]);
+    } else if random.chance(20) {
         damage_word(random, &mut image);
     }
     image

@@ -63,11 +63,23 @@ pub fn any_call(random: &mut Random, store: &Store, mix: Mix) -> Call {
 }
 
 fn epoch_call(random: &mut Random, store: &Store) -> Call {
+    if random.chance(50) {
+        if let Some(thread) = blocking_thread(store) {
+            return Call::End { thread };
+        }
+    }
     match random.below(20) {
         0 => Call::Sync,
         1..=4 => line_written_back(random, store),
         _ => Call::Advance,
     }
+}
+
+/// A thread whose open operation keeps the next advance from starting.
+fn blocking_thread(store: &Store) -> Option<u32> {
+    let entry = store.enter().ok()?;
+    let blocks = |&thread: &usize| entry.open(store, thread) == entry.clock - 1;
+    (0..entry.layout.threads).find(blocks).map(|thread| thread as u32)
 }
 
 fn line_written_back(random: &mut Random, store: &Store) -> Call {
@@ -107,14 +119,15 @@ fn key_call(random: &mut Random, store: &Store, entry: Option<Entry>, thread: u3
     }
 }
 
-/// A key of the board, most often one that some slot holds where that is wanted.
+/// A key of the board, most often that of a live job where one is wanted.
 fn any_key(random: &mut Random, store: &Store, entry: Option<Entry>, keys: u32, wants_held: bool) -> u32 {
     if random.chance(2) {
         return edge_word(random, keys);
     }
     match entry {
         Some(entry) if wants_held && random.chance(80) => {
-            let held: Vec<usize> = entry.slots().filter(|&slot| entry.header(store, slot).is_filled()).collect();
+            let is_wanted = |slot: &usize| entry.is_live(store, *slot);
+            let held: Vec<usize> = entry.slots().filter(is_wanted).collect();
             if held.is_empty() { 1 } else { entry.sizes.key(&store.working, random.pick(&held)) }
         }
         _ => random.between(1, keys),

@@ -22,6 +22,10 @@ pub struct Entry {
 }
 
 impl Store {
+    pub fn slices(&mut self) -> [&mut Vec<u32>; 3] {
+        [&mut self.working, &mut self.persistent, &mut self.transient]
+    }
+
     /// Refusals 1 and 2.
     pub fn enter(&self) -> Result<Entry, Refusal> {
         let sizes = Sizes::of(&self.working).ok_or(1u32)?;

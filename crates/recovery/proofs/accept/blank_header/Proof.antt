@@ -1,0 +1,14 @@
+-- `blank_header`: each way out is a law.
+use borrow.Author.Needs.{needs}
+use Rattle.recovery.specs.Code.{laws}
+use Rattle.recovery.specs.Code.{marks, checks}
+use Rattle.recovery.proofs.accept.blank_header.Statement.{statement}
+use Rattle.recovery.proofs.accept.blank_header.Tie as tie
+
+pub blank-header-spec : {M : Type 1} → statement M
+blank-header-spec =
+    tie.close
+    (tie.spec
+    (λ c. search (needs, laws, marks, checks))
+    (λ c. search (needs, laws, marks, checks))
+    (λ c. search (needs, laws, marks, checks)))

@@ -1,0 +1,17 @@
+-- `check_head`: each way out is a law.
+use borrow.Author.Needs.{needs}
+use Rattle.recovery.specs.Code.{laws}
+use Rattle.recovery.specs.Code.{marks, checks}
+use Rattle.recovery.proofs.accept.check_head.Statement.{statement}
+use Rattle.recovery.proofs.accept.check_head.Tie as tie
+
+pub check-head-spec : {M : Type 1} → statement M
+check-head-spec =
+    tie.close
+    (tie.spec
+    (λ c κs. search (needs, laws, marks, checks))
+    (λ c κs. search (needs, laws, marks, checks))
+    (λ c κs. search (needs, laws, marks, checks))
+    (λ c. search (needs, laws, marks, checks))
+    (λ c. search (needs, laws, marks, checks))
+    (λ c. search (needs, laws, marks, checks)))

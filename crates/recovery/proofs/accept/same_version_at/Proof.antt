@@ -1,0 +1,16 @@
+-- `same_version_at`: each way out is a law.
+use borrow.Author.Needs.{needs}
+use Rattle.recovery.specs.Code.{laws}
+use Rattle.recovery.specs.Code.{marks, checks}
+use Rattle.recovery.proofs.accept.same_version_at.Statement.{statement}
+use Rattle.recovery.proofs.accept.same_version_at.Tie as tie
+
+pub same-version-at-spec : {M : Type 1} → statement M
+same-version-at-spec =
+    tie.close
+    (tie.spec
+    (λ c κs. search (needs, laws, marks, checks))
+    (λ c κs. search (needs, laws, marks, checks))
+    (λ c. search (needs, laws, marks, checks))
+    (λ c. search (needs, laws, marks, checks))
+    (λ c. search (needs, laws, marks, checks)))

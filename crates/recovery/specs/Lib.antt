@@ -1,0 +1,4 @@
+pub mod Survivors
+pub mod Accept
+pub mod Recover
+pub mod Code

@@ -1,0 +1,78 @@
+-- 01, "Recovery": one recover call, from a store to a reply and a store.
+use Prim.Native.Nat.{ℕ, _+_, _-_}
+use mathlib.Core.Bool.{Bool, not, _&&_}
+use mathlib.Core.List.{List}
+use lib.ListN.{length}
+use lib.Dec.{eqb}
+use Rattle.search.specs.First.{firstOf}
+use Rattle.search.specs.Largest.{largest}
+use Rattle.search.specs.declared.Found.{Found}
+use Rattle.search.specs.declared.Found.the-variants.{At, Nothing}
+use Rattle.reply.specs.declared.Check.{Check}
+use Rattle.reply.specs.declared.Check.the-variants.{Accepted, Refused}
+use Rattle.reply.specs.declared.Refusal.the-variants.{Sizes}
+use Rattle.reply.specs.Refusals.{refuse, refusalNumber}
+use Rattle.image.specs.Layout.{filledKind, header, slotsOf, clockOf, setHeader, freeHeader}
+use Rattle.transient.specs.Store.{Store, store}
+use Rattle.transient.specs.Layout.{threadsOk, blank}
+use Rattle.recovery.specs.Survivors.{survivor, keptAnti}
+use Rattle.recovery.specs.Accept.{imageCheck}
+use Rattle.recovery.specs.declared.step.Recovery.{Recovery}
+use Rattle.recovery.specs.declared.step.Recovery.the-variants.{WentOn, Done, Declined}
+
+unfoldable pub antiAt : List ℕ → ℕ → Bool
+antiAt l s = keptAnti (clockOf l) (header l s)
+
+-- "every filled slot that neither survives nor is a kept DELETE"
+unfoldable pub stale : List ℕ → ℕ → ℕ → Bool
+stale l n s = filledKind (header l s .kind) && (not (survivor l n s) && not (antiAt l s))
+
+abbrev pub orElse : Found → Found → Found
+orElse (At s) f = At s
+orElse Nothing f = f
+
+-- "frees lasting marks one at a time: first, in slot order, every filled slot that neither survives nor is a kept DELETE;
+-- then, in slot order, the kept DELETEs"
+unfoldable pub nextFreed : List ℕ → ℕ → Found
+nextFreed l n = orElse (firstOf (stale l n) n) (firstOf (antiAt l) n)
+
+abbrev pub uidOf : List ℕ → ℕ → ℕ
+uidOf l s = header l s .uid
+
+-- "The next uid is one more than the largest surviving uid, 1 if none."
+unfoldable pub nextUid : List ℕ → ℕ → ℕ
+nextUid l n = largest (survivor l n) (uidOf l) n + 1
+
+-- "fresh and recover judge only the lengths of what they fill"
+unfoldable pub lengthsFit : ℕ → List ℕ → ℕ → Bool
+lengthsFit working l transient = eqb working (length l) && threadsOk transient (slotsOf l)
+
+unfoldable pub recoverCheck : Store → Check
+recoverCheck st =
+    refuse (not (lengthsFit (length (st .working)) (st .persistent) (length (st .transient)))) Sizes (imageCheck (st .persistent))
+
+pub record Recovered : Type 0 where
+  pub reply : Recovery
+  pub store : Store
+
+abbrev pub recovered : Recovery → List ℕ → List ℕ → List ℕ → Recovered
+recovered r w p t = record { reply = r; store = store w p t }
+
+-- "frees the next such mark, leaves working and notes alone and replies went on. The call that finds none to free replies done;
+-- only there does working become a copy and are the notes set." A recovered store's search begins at slot 0, after the last.
+abbrev pub freeing : Found → Store → ℕ → Recovered
+freeing (At s) st n = recovered WentOn (st .working) (setHeader (st .persistent) s freeHeader) (st .transient)
+freeing Nothing st n = recovered Done (st .persistent) (st .persistent) (blank (length (st .transient)) (n - 1) (nextUid (st .persistent) n))
+
+abbrev pub judged : Check → Store → Recovered
+judged (Refused r) st = record { reply = Declined r; store = st }
+judged Accepted st = freeing (nextFreed (st .persistent) (slotsOf (st .persistent))) st (slotsOf (st .persistent))
+
+unfoldable pub recover : Store → Recovered
+recover st = judged (recoverCheck st) st
+
+-- the reply as one number: 0 went on, 1 done, or 2^32 plus the refusal
+abbrev pub recoveryNumber : Recovery → ℕ
+recoveryNumber WentOn = 0
+recoveryNumber Done = 1
+recoveryNumber (Declined r) = 4294967296 + refusalNumber r

@@ -1,0 +1,39 @@
+-- 01, "Recovery": which slots are kept, win and survive. `hs` is the table of headers, `c` the clock, `n` the slots.
+use Prim.Native.Nat.{ℕ, _+_}
+use mathlib.Core.Bool.{Bool, not, _&&_}
+use mathlib.Core.List.{List}
+use lib.Dec.{leb, ltb, eqb}
+use Rattle.search.specs.Some.{some}
+use Rattle.search.specs.Count.{count}
+use Rattle.image.specs.declared.header.Header.{Header}
+use Rattle.image.specs.Layout.{filledKind, payloadKind, header, clockOf}
+
+-- "A slot is kept when it is filled and label + 2 ≤ clock."
+unfoldable pub kept : ℕ → Header → Bool
+kept c h = filledKind (h .kind) && leb (h .epoch + 2) c
+
+-- a kept header g of the same uid and a larger epoch
+unfoldable pub beats : ℕ → Header → Header → Bool
+beats c h g = kept c g && (eqb (g .uid) (h .uid) && ltb (h .epoch) (g .epoch))
+
+unfoldable pub beaten : ℕ → (ℕ → Header) → ℕ → Header → Bool
+beaten c hs n h = some (λ t. beats c h (hs t)) n
+
+-- "Of kept slots with one uid the largest label wins;"
+unfoldable pub wins : ℕ → (ℕ → Header) → ℕ → ℕ → Bool
+wins c hs n s = kept c (hs s) && not (beaten c hs n (hs s))
+
+-- "a winner of kind 1 or 2 survives."
+unfoldable pub survives : ℕ → (ℕ → Header) → ℕ → ℕ → Bool
+survives c hs n s = payloadKind (hs s .kind) && wins c hs n s
+
+-- a kept DELETE
+unfoldable pub keptAnti : ℕ → Header → Bool
+keptAnti c h = kept c h && eqb (h .kind) 3
+
+-- the survivors of an image of n slots
+unfoldable pub survivor : List ℕ → ℕ → ℕ → Bool
+survivor l n s = survives (clockOf l) (header l) n s
+
+unfoldable pub survivorCount : List ℕ → ℕ → ℕ
+survivorCount l n = count (survivor l n) n

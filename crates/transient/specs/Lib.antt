@@ -1,0 +1,3 @@
+pub mod Layout
+pub mod Store
+pub mod Code
