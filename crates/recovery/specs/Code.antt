@@ -124,16 +124,16 @@ flagging-end {p} {n} {i} z h =
     let e : i ≡ n = omega arith in
     rw e at (z .so-far)
 
-pub flagged-clock : (l : List ℕ) {c n i : ℕ} {flags : List Bool} → c ≡ clockOf l → Flagging (survives c (header l) n) n i flags → n ≤ i → Flagged flags (survivor l n) n
-unfolding survivor
-flagged-clock l {c} {n} e z h =
-    let f = flagging-end z h in
-    record { long = f .long; same = λ s k. f .same s k ∙ ap (λ d. survives d (header l) n s) e }
-
 -- ---- an image beside its survivors' flags
 pub record Marked (l : List ℕ) (n : ℕ) (flags : List Bool) : Type 0 where
   pub headers : Headers l n
   pub flagged : Flagged flags (survivor l n) n
+
+pub marked-end : {l : List ℕ} {c n i : ℕ} {flags : List Bool} → Headers l n → c ≡ clockOf l → Flagging (survives c (header l) n) n i flags → n ≤ i → Marked l n flags
+unfolding survivor
+marked-end {l} {c} {n} z e f h =
+    let g = flagging-end f h in
+    record { headers = z; flagged = record { long = g .long; same = λ s k. g .same s k ∙ ap (λ d. survives d (header l) n s) e } }
 
 pub record AllMarked (l : List ℕ) (n w : ℕ) (flags : List Bool) : Type 0 where
   pub sized : Sized l n w
@@ -341,7 +341,7 @@ pub count-is : (l : List ℕ) (n : ℕ) {r : ℕ} → r ≡ count (survivor l n)
 unfolding survivorCount
 count-is l n e = e
 
-pub ruleset laws = (tests, firsts, somes, header-in, header-of, kept-yes, kept-no, beats-yes, beats-uid, beats-no, anti-yes, anti-no, beaten-is, survives-kind, survives-new, survives-beaten, survives-yes, flagging-start, flagging-next, flagged-clock)
+pub ruleset laws = (tests, firsts, somes, header-in, header-of, kept-yes, kept-no, beats-yes, beats-uid, beats-no, anti-yes, anti-no, beaten-is, survives-kind, survives-new, survives-beaten, survives-yes, flagging-start, flagging-next, marked-end)
 
 pub ruleset marks = (counts, headers-of, all-headers, slot-marked, slot-below, header-below, below-of, below-marked, flag-hit, flag-miss, count-is)
 

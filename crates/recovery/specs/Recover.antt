@@ -11,12 +11,12 @@ use Rattle.search.specs.declared.Found.the-variants.{At, Nothing}
 use Rattle.reply.specs.declared.Check.{Check}
 use Rattle.reply.specs.declared.Check.the-variants.{Accepted, Refused}
 use Rattle.reply.specs.declared.Refusal.the-variants.{Sizes}
-use Rattle.reply.specs.Refusals.{refuse, refusalNumber}
-use Rattle.image.specs.Layout.{filledKind, header, slotsOf, clockOf, setHeader, freeHeader}
+use Rattle.reply.specs.Refusals.{refuse, andThen, refusalNumber}
+use Rattle.image.specs.Layout.{filledKind, header, slotsOf, widthOf, clockOf, setHeader, freeHeader}
 use Rattle.transient.specs.Store.{Store, store}
 use Rattle.transient.specs.Layout.{threadsOk, blank}
 use Rattle.recovery.specs.Survivors.{survivor, keptAnti}
-use Rattle.recovery.specs.Accept.{imageCheck}
+use Rattle.recovery.specs.Accept.{headCheck, slotsCheck}
 use Rattle.recovery.specs.declared.step.Recovery.{Recovery}
 use Rattle.recovery.specs.declared.step.Recovery.the-variants.{WentOn, Done, Declined}
 
@@ -47,9 +47,15 @@ nextUid l n = largest (survivor l n) (uidOf l) n + 1
 unfoldable pub lengthsFit : ℕ → List ℕ → ℕ → Bool
 lengthsFit working l transient = eqb working (length l) && threadsOk transient (slotsOf l)
 
+-- refusals 1 and 2 of recover
+unfoldable pub entryCheck : ℕ → List ℕ → ℕ → Check
+entryCheck working l transient = refuse (not (lengthsFit working l transient)) Sizes (headCheck l)
+
 unfoldable pub recoverCheck : Store → Check
 recoverCheck st =
-    refuse (not (lengthsFit (length (st .working)) (st .persistent) (length (st .transient)))) Sizes (imageCheck (st .persistent))
+    andThen
+    (entryCheck (length (st .working)) (st .persistent) (length (st .transient)))
+    (slotsCheck (st .persistent) (slotsOf (st .persistent)) (widthOf (st .persistent)))
 
 pub record Recovered : Type 0 where
   pub reply : Recovery
@@ -60,16 +66,19 @@ recovered r w p t = record { reply = r; store = store w p t }
 
 -- "frees the next such mark, leaves working and notes alone and replies went on. The call that finds none to free replies done;
 -- only there does working become a copy and are the notes set." A recovered store's search begins at slot 0, after the last.
+unfoldable pub finished : List ℕ → ℕ → ℕ → Store
+finished l transient n = store l l (blank transient (n - 1) (nextUid l n))
+
 abbrev pub freeing : Found → Store → ℕ → Recovered
 freeing (At s) st n = recovered WentOn (st .working) (setHeader (st .persistent) s freeHeader) (st .transient)
-freeing Nothing st n = recovered Done (st .persistent) (st .persistent) (blank (length (st .transient)) (n - 1) (nextUid (st .persistent) n))
+freeing Nothing st n = record { reply = Done; store = finished (st .persistent) (length (st .transient)) n }
 
-abbrev pub judged : Check → Store → Recovered
-judged (Refused r) st = record { reply = Declined r; store = st }
-judged Accepted st = freeing (nextFreed (st .persistent) (slotsOf (st .persistent))) st (slotsOf (st .persistent))
+abbrev pub judged : Check → Store → ℕ → Recovered
+judged (Refused r) st n = record { reply = Declined r; store = st }
+judged Accepted st n = freeing (nextFreed (st .persistent) n) st n
 
 unfoldable pub recover : Store → Recovered
-recover st = judged (recoverCheck st) st
+recover st = judged (recoverCheck st) st (slotsOf (st .persistent))
 
 -- the reply as one number: 0 went on, 1 done, or 2^32 plus the refusal
 abbrev pub recoveryNumber : Recovery → ℕ

@@ -2,8 +2,8 @@
 use image::header::Header;
 ghost use mathlib.Core.Path.{_≡_};
 ghost use Rattle.image.specs.Layout.{HeaderFits, header};
-ghost use Rattle.recovery.specs.Survivors.{kept, beats, beaten, survives, keptAnti, survivorCount, survivor};
-ghost use Rattle.recovery.specs.Code.{Headers, HeaderOf, Flagged, Marked};
+ghost use Rattle.recovery.specs.Survivors.{kept, beats, beaten, survives, keptAnti, survivorCount};
+ghost use Rattle.recovery.specs.Code.{Headers, HeaderOf, Marked};
 
 pub fn kept(h: Header, c: u32) -> bool
     ensures { λ r. ⌜ r ≡ kept c h ⌝ }
@@ -61,7 +61,7 @@ fn survives(img: &[u32], n: usize, c: u32, s: usize) -> bool
 // Each slot's survival, worked out once: the flags are what later passes look at.
 pub fn survivors(img: &[u32], n: usize) -> [bool; 1024]
     requires { ⌜ Headers (now img) n ⌝ }
-    ensures { λ r. ⌜ Flagged r (survivor (now (img .entry)) n) n ⌝ }
+    ensures { λ r. ⌜ Marked (now (img .entry)) n r ⌝ }
 {
     let c = image::shape::clock(img);
     let mut flags = [false; 1024];

@@ -1,21 +1,46 @@
-//! The library's calls on the simulator's types.
+//! The library's calls on the simulator's types, one function for each set of exports that a program needs.
 
-use crate::exports::{board_clock, board_recover, board_survivors};
+use crate::exports::*;
 use crate::lent::Lent;
 use simulator::calls::{simulate, Call};
 use simulator::store::Store;
 
+/// The six arguments that every call on a store begins with.
+#[derive(Clone, Copy)]
+pub struct Slices {
+    w: *mut u32,
+    wl: usize,
+    p: *mut u32,
+    pl: usize,
+    t: *mut u32,
+    tl: usize,
+}
+
 /// Carries the call out with the library and with the simulator. The reply is given where both agree in it and
 /// in every word of the three slices, else what differs.
-pub fn compared(store: &mut Store, call: &Call) -> Result<u64, String> {
-    let mut expected = store.clone();
-    let wanted = simulate(&mut expected, call);
+pub fn compare(store: &mut Store, call: &Call, library: fn(Slices, &Call) -> u64) -> Result<u64, String> {
     let before = store.clone();
-    let reply = perform(store, call)?;
-    if reply == wanted && *store == expected {
+    let [mut working, mut persistent, mut transient] = store.slices().map(|slice| Lent::new(slice));
+    let slices = Slices {
+        w: working.start(),
+        wl: store.working.len(),
+        p: persistent.start(),
+        pl: store.persistent.len(),
+        t: transient.start(),
+        tl: store.transient.len(),
+    };
+    let reply = library(slices, call);
+    let beside = || format!("a word beside the slices was overwritten, by {call:?} on {before:?}");
+    let after = Store {
+        working: working.taken_back().ok_or_else(beside)?,
+        persistent: persistent.taken_back().ok_or_else(beside)?,
+        transient: transient.taken_back().ok_or_else(beside)?,
+    };
+    let wanted = simulate(store, call);
+    if reply == wanted && after == *store {
         return Ok(reply);
     }
-    Err(format!("reply {reply}, wanted {wanted}\nbefore {before:?}\nwanted {expected:?}\nafter  {store:?}"))
+    Err(format!("{call:?} replies {reply}, wanted {wanted}\nbefore {before:?}\nwanted {store:?}\nafter  {after:?}"))
 }
 
 /// The library's answers to the server's two questions: clock and survivors.
@@ -25,22 +50,54 @@ pub fn answers(bytes: &[u8]) -> [u64; 2] {
     unsafe { [board_clock(start, length), board_survivors(start, length)] }
 }
 
-/// The library's reply; the store is left as the library left it.
-fn perform(store: &mut Store, call: &Call) -> Result<u64, String> {
-    let [mut working, mut persistent, mut transient] =
-        [&store.working, &store.persistent, &store.transient].map(|slice| Lent::new(slice));
-    let (wl, pl, tl) = (store.working.len(), store.persistent.len(), store.transient.len());
-    let (w, p, t) = (working.start(), persistent.start(), transient.start());
+/// The lengths the library gives: of an image, and of the notes.
+pub fn lengths(slots: u32, words: u32, threads: u32) -> [usize; 2] {
+    // SAFETY: both take numbers alone.
+    unsafe { [board_image_words(slots, words), board_transient_words(slots, threads)] }
+}
+
+/// Recover, which is the only call here.
+pub fn recover(slices: Slices, _: &Call) -> u64 {
+    let Slices { w, wl, p, pl, t, tl } = slices;
     // SAFETY: three separate buffers, each longer than the length that goes with it.
+    unsafe { board_recover(w, wl, p, pl, t, tl) }
+}
+
+/// Format and the calls of threads.
+pub fn change(slices: Slices, call: &Call) -> u64 {
+    let Slices { w, wl, p, pl, t, tl } = slices;
+    // SAFETY: as in `recover`, and the value is readable for its whole length.
     let reply = unsafe {
-        match call {
-            Call::Recover => board_recover(w, wl, p, pl, t, tl),
-            other => return Err(format!("{other:?} is not exported")),
+        match *call {
+            Call::Format { slots, words } => board_format(w, wl, p, pl, t, tl, slots, words),
+            Call::Begin { thread } => board_begin(w, wl, p, pl, t, tl, thread),
+            Call::End { thread } => board_end(w, wl, p, pl, t, tl, thread),
+            Call::New { thread, key, ref value } => {
+                board_new(w, wl, p, pl, t, tl, thread, key, value.as_ptr(), value.len())
+            }
+            Call::Set { thread, key, ref value } => {
+                board_set(w, wl, p, pl, t, tl, thread, key, value.as_ptr(), value.len())
+            }
+            Call::Delete { thread, key } => board_delete(w, wl, p, pl, t, tl, thread, key),
+            Call::ReadRefusal { thread, key } => board_read_refusal(w, wl, p, pl, t, tl, thread, key),
+            Call::Read { thread, key } => return board_read(w, wl, p, pl, t, tl, thread, key),
+            Call::Recover | Call::Advance | Call::Sync | Call::WriteBack { .. } => panic!("{call:?} is no change"),
         }
     };
-    let beside = || "a word beside the lent slices was overwritten".to_string();
-    store.working = working.taken_back().ok_or_else(beside)?;
-    store.persistent = persistent.taken_back().ok_or_else(beside)?;
-    store.transient = transient.taken_back().ok_or_else(beside)?;
-    Ok(reply)
+    u64::from(reply)
+}
+
+/// Every call.
+pub fn any(slices: Slices, call: &Call) -> u64 {
+    let Slices { w, wl, p, pl, t, tl } = slices;
+    // SAFETY: as in `recover`.
+    unsafe {
+        match *call {
+            Call::Recover => recover(slices, call),
+            Call::Advance => board_advance(w, wl, p, pl, t, tl),
+            Call::Sync => board_sync(w, wl, p, pl, t, tl),
+            Call::WriteBack { slot, line } => u64::from(board_write_back(w, wl, p, pl, t, tl, slot, line)),
+            _ => change(slices, call),
+        }
+    }
 }

@@ -1,7 +1,9 @@
-//! Lasting images that were not left by a run: some that recovery accepts, and many that it does not.
+//! Images and stores that were not left by a run: some that are in order, and many that are not.
 
 use crate::image::{Header, Sizes, CLOCK, FIRST_CLOCK, LARGEST};
 use crate::random::Random;
+use crate::store::Store;
+use crate::transient::{Layout, LAST_TAKEN, PHASE, PLACE_SLOT};
 
 /// A clock near one of its ends, or small.
 pub fn any_clock(random: &mut Random) -> u32 {
@@ -119,4 +121,61 @@ pub fn any_image(random: &mut Random, sizes: Sizes) -> Vec<u32> {
         damage_word(random, &mut image);
     }
     image
+}
+
+/// A copy with a few words replaced and now and then a wrong length.
+pub fn damaged_store(random: &mut Random, store: &Store) -> Store {
+    let mut store = store.clone();
+    for _ in 0..random.between(1, 3) {
+        let slice = random.below(3);
+        damage_word(random, store.slices()[slice]);
+    }
+    if random.chance(10) {
+        let slice = random.below(3);
+        damage_length(random, store.slices()[slice]);
+    }
+    store
+}
+
+/// A store that passes the check at entry and is otherwise arbitrary: headers of any kind, images that have
+/// nothing to do with each other, and notes that have nothing to do with either.
+pub fn wild_store(random: &mut Random, slots: u32) -> Store {
+    let sizes = Sizes::new(slots, random.between(2, 4)).expect("these sizes are in range");
+    let layout = Layout::new(sizes.slots, random.below(3) + 1).expect("these sizes are in range");
+    let clock = any_clock(random);
+    let mut transient = layout.blank(random.pick(&[1, 7, LARGEST, LARGEST + 1]));
+    transient[LAST_TAKEN] = random.between(0, slots - 1);
+    transient[PLACE_SLOT] = random.between(0, slots - 1);
+    transient[PHASE] = random.pick(&[0, 0, 1, 1, 2, 3, 4, 5, u32::MAX]);
+    for thread in 0..layout.threads {
+        transient[layout.open(thread)] = random.pick(&[0, clock, clock, clock - 1]);
+    }
+    for slot in 0..sizes.slots {
+        transient[layout.retired(slot)] = if random.chance(60) { 0 } else { wild_epoch(random, clock) };
+        transient[layout.waiting(0, slot)] = random.pick(&[0, 1, 2, u32::MAX]);
+        transient[layout.waiting(1, slot)] = random.pick(&[0, 0, 1, 0x8000_0000]);
+    }
+    Store { working: wild_image(random, sizes, clock), persistent: wild_image(random, sizes, clock), transient }
+}
+
+fn wild_image(random: &mut Random, sizes: Sizes, clock: u32) -> Vec<u32> {
+    let mut image = bare_image(random, sizes, clock);
+    for slot in 0..sizes.slots {
+        let kind = random.pick(&[0, 0, 1, 1, 2, 2, 3, 4, u32::MAX]);
+        let header = Header { kind, epoch: wild_epoch(random, clock), uid: edge_word(random, 1) };
+        let value = random.junk(sizes.value_words());
+        let key = random.between(0, 4);
+        sizes.set_header(&mut image, slot, header);
+        sizes.set_contents(&mut image, slot, key, &value);
+    }
+    image
+}
+
+/// A label close to the clock on either side, or one for which a sum or difference with it would wrap.
+fn wild_epoch(random: &mut Random, clock: u32) -> u32 {
+    match random.below(10) {
+        0 => random.pick(&[0, 1, u32::MAX, u32::MAX - 1, u32::MAX - 2]),
+        1 => clock.wrapping_add(random.between(1, 2)),
+        _ => clock.wrapping_sub(random.between(0, 4)),
+    }
 }

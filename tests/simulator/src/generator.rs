@@ -17,37 +17,50 @@ pub fn unformatted(random: &mut Random, slots: u32, words: u32, threads: u32) ->
     }
 }
 
-/// What format left, or what recover left of an image it accepts.
+/// What format left, or what recover left of an image it accepts or of an earlier run.
 pub fn start(random: &mut Random, slots: u32) -> Store {
     let most_words = random.pick(&[3, 4, 4, 9]);
     let words = random.between(2, most_words);
     let most_threads = random.pick(&[2, 3, 3, 16]);
     let threads = random.between(1, most_threads);
     let mut store = unformatted(random, slots, words, threads);
-    if random.chance(40) {
+    if random.chance(50) {
         assert_eq!(simulate(&mut store, &Call::Format { slots, words }), 0);
-        return store;
+    } else {
+        let sizes = Sizes::new(slots, words).expect("the sizes are in range");
+        let clock = any_clock(random);
+        let filled = if random.chance(50) { slots as usize } else { slots as usize / 2 };
+        store.persistent = acceptable_image(random, sizes, clock, filled);
+        recover_fully(&mut store);
     }
-    let sizes = Sizes::new(slots, words).expect("the sizes are in range");
-    let clock = any_clock(random);
-    let filled = if random.chance(50) { slots as usize } else { slots as usize / 2 };
-    store.persistent = acceptable_image(random, sizes, clock, filled);
-    while simulate(&mut store, &Call::Recover) == WENT_ON {}
+    if random.chance(30) {
+        some_calls(random, &mut store, 60);
+        recover_fully(&mut store);
+    }
     store
+}
+
+fn recover_fully(store: &mut Store) {
+    while simulate(store, &Call::Recover) == WENT_ON {}
 }
 
 /// A start and calls on it, made up by watching the simulator.
 pub fn trace(random: &mut Random, slots: u32, length: usize) -> Trace {
     let start = start(random, slots);
-    let mut store = start.clone();
+    let calls = some_calls(random, &mut start.clone(), length);
+    Trace { start, calls }
+}
+
+fn some_calls(random: &mut Random, store: &mut Store, length: usize) -> Vec<Call> {
+    let slots = store.working[0];
     let mix = Mix { advances: random.pick(&[15, 45, 65]), keys: random.between(2, slots + 2) };
     let mut calls = Vec::new();
     for _ in 0..length {
-        let call = any_call(random, &store, mix);
-        simulate(&mut store, &call);
+        let call = any_call(random, store, mix);
+        simulate(store, &call);
         calls.push(call);
     }
-    Trace { start, calls }
+    calls
 }
 
 /// How often a call has to do with epochs, in percent, and how many keys are in play.
@@ -62,7 +75,7 @@ pub fn any_call(random: &mut Random, store: &Store, mix: Mix) -> Call {
     if random.chance(mix.advances) { epoch_call(random, store) } else { job_call(random, store, mix.keys) }
 }
 
-fn epoch_call(random: &mut Random, store: &Store) -> Call {
+pub fn epoch_call(random: &mut Random, store: &Store) -> Call {
     if random.chance(50) {
         if let Some(thread) = blocking_thread(store) {
             return Call::End { thread };
@@ -126,8 +139,7 @@ fn any_key(random: &mut Random, store: &Store, entry: Option<Entry>, keys: u32, 
     }
     match entry {
         Some(entry) if wants_held && random.chance(80) => {
-            let is_wanted = |slot: &usize| entry.is_live(store, *slot);
-            let held: Vec<usize> = entry.slots().filter(is_wanted).collect();
+            let held: Vec<usize> = entry.slots().filter(|&slot| entry.is_live(store, slot)).collect();
             if held.is_empty() { 1 } else { entry.sizes.key(&store.working, random.pick(&held)) }
         }
         _ => random.between(1, keys),

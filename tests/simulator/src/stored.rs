@@ -46,8 +46,8 @@ pub fn stored_images() -> Vec<(String, Vec<u8>)> {
 }
 
 fn accepted() -> Vec<(&'static str, Vec<u32>)> {
-    let versions =
-        [(ALLOC, 2, 4, 12), (UPDATE, 6, 4, 12), (ALLOC, 3, 2, 6), (DELETE, 5, 2, 6), (UPDATE, 4, 3, 9), (ALLOC, 8, 1, 7)];
+    let deleted = [(ALLOC, 3, 2, 6), (DELETE, 5, 2, 6)];
+    let versions = [(ALLOC, 2, 4, 12), (UPDATE, 6, 4, 12), deleted[0], deleted[1], (UPDATE, 4, 3, 9), (ALLOC, 8, 1, 7)];
     let zero_value = [2, 3, 4, ALLOC, 2, LARGEST, 0, 0, 0, u32::MAX, 0, 0, 1, 2, 3];
     vec![
         ("example", EXAMPLE.to_vec()),

@@ -122,6 +122,7 @@ pub fn shrink(mut trace: Trace, engine: &mut Engine) -> String {
         if let Some(still) = fails(&shorter) {
             trace = shorter;
             what = still;
+            number = trace.calls.len();
         }
     }
     format!("{what}\n{trace:?}")

@@ -1,10 +1,9 @@
 //! The simulator against the reference map and against arbitrary words.
 
 use simulator::calls::{refusal_of, simulate, Call};
-use simulator::damage::{damage_length, damage_word};
+use simulator::damage::{damaged_store, wild_store};
 use simulator::generator::{any_call, start, trace, unformatted, Mix};
 use simulator::random::Random;
-use simulator::store::Store;
 use simulator::trace::{replay, shrink, simulated, Counts};
 
 #[test]
@@ -28,7 +27,15 @@ fn every_crash_leaves_the_reference_map() {
 fn every_call_is_total_and_a_refusal_changes_nothing() {
     let mut random = Random::new(7);
     for round in 0..20_000 {
-        let mut store = damaged(&mut random);
+        let slots = random.between(2, 6);
+        let mut store = match random.below(3) {
+            0 => unformatted(&mut random, slots, 3, 2),
+            1 => wild_store(&mut random, slots),
+            _ => start(&mut random, slots),
+        };
+        if random.chance(50) {
+            store = damaged_store(&mut random, &store);
+        }
         for _ in 0..10 {
             let call = match random.below(10) {
                 0 => Call::Recover,
@@ -40,17 +47,4 @@ fn every_call_is_total_and_a_refusal_changes_nothing() {
             assert!(refusal_of(&call, reply) == 0 || store == before, "round {round}: {call:?} on {before:?}");
         }
     }
-}
-
-fn damaged(random: &mut Random) -> Store {
-    let slots = random.between(2, 6);
-    let mut store = if random.chance(20) { unformatted(random, slots, 3, 2) } else { start(random, slots) };
-    for _ in 0..random.below(4) {
-        let slice = random.below(3);
-        damage_word(random, store.slices()[slice]);
-        if random.chance(10) {
-            damage_length(random, store.slices()[slice]);
-        }
-    }
-    store
 }

@@ -1,27 +1,13 @@
 //! The five "Ways to lose a job", each as a run in which the job must not be lost or come back.
 
-use simulator::calls::{refused, simulate, Call, DONE, TICKED, WENT_ON};
+mod common;
+
+use common::{delete, fresh, make, new, tick, BEGIN, END};
+use simulator::calls::{simulate, Call, DONE, WENT_ON};
 use simulator::image::{ALLOC, DELETE, UPDATE};
-use simulator::random::Random;
 use simulator::recovery::{judge, surviving_jobs, Jobs};
 use simulator::store::Store;
 use simulator::stored::image_with;
-
-fn fresh(slots: u32, threads: u32) -> Store {
-    let mut store = simulator::generator::unformatted(&mut Random::new(1), slots, 2, threads);
-    assert_eq!(simulate(&mut store, &Call::Format { slots, words: 2 }), 0);
-    store
-}
-
-fn make(store: &mut Store, calls: &[Call]) {
-    for call in calls {
-        assert_eq!(simulate(store, call), 0, "{call:?}");
-    }
-}
-
-fn tick(store: &mut Store) {
-    while simulate(store, &Call::Advance) != TICKED {}
-}
 
 /// What recovery leaves of the store as it is now.
 fn jobs_after_crash(store: &Store) -> Jobs {
@@ -29,17 +15,6 @@ fn jobs_after_crash(store: &Store) -> Jobs {
     while simulate(&mut crashed, &Call::Recover) == WENT_ON {}
     surviving_jobs(&crashed.working).unwrap()
 }
-
-fn new(thread: u32, key: u32) -> Call {
-    Call::New { thread, key, value: vec![key] }
-}
-
-fn delete(thread: u32, key: u32) -> Call {
-    Call::Delete { thread, key }
-}
-
-const BEGIN: Call = Call::Begin { thread: 0 };
-const END: Call = Call::End { thread: 0 };
 
 #[test]
 fn a_delete_outlasts_the_record_it_covers() {
@@ -65,7 +40,7 @@ fn a_stray_copy_of_a_slot_freed_at_once_does_not_return() {
     make(&mut store, &stray);
     make(&mut store, &[delete(0, 1), END]);
     assert_eq!(store.persistent[3], ALLOC);
-    assert_ne!(simulate(&mut store, &Call::Sync), refused(14));
+    assert_eq!(simulate(&mut store, &Call::Sync), 4);
     assert!(jobs_after_crash(&store).is_empty());
 }
 

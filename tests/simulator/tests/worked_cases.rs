@@ -1,44 +1,14 @@
 //! The cases under "Contracts and cases" and the lister's example.
 
-use simulator::calls::{image_words, refused, simulate, transient_words, Call, DONE, TICKED};
+mod common;
+
+use common::{delete, fresh, make, new, tick, BEGIN, END};
+use simulator::calls::{image_words, refused, simulate, transient_words, Call, DONE, WENT_ON};
 use simulator::image::{Header, ALLOC, DELETE, UPDATE};
 use simulator::lister::{bytes_of, clock_answer, listing, survivors_answer};
-use simulator::random::Random;
 use simulator::recovery::judge;
 use simulator::store::Store;
 use simulator::stored::{image_with, stored_images, EXAMPLE};
-
-fn fresh(slots: u32, words: u32, threads: u32) -> Store {
-    let mut random = Random::new(1);
-    let mut store = simulator::generator::unformatted(&mut random, slots, words, threads);
-    assert_eq!(simulate(&mut store, &Call::Format { slots, words }), 0);
-    store
-}
-
-fn make(store: &mut Store, calls: &[Call]) {
-    for call in calls {
-        assert_eq!(simulate(store, call), 0, "{call:?}");
-    }
-}
-
-/// Advance calls up to a tick; gives their number.
-fn tick(store: &mut Store) -> u64 {
-    for lines in 1.. {
-        match simulate(store, &Call::Advance) {
-            0 => {}
-            TICKED => return lines,
-            other => panic!("advance replies {other}"),
-        }
-    }
-    unreachable!("an advance ticks")
-}
-
-fn new(key: u32) -> Call {
-    Call::New { thread: 0, key, value: vec![key] }
-}
-
-const BEGIN: Call = Call::Begin { thread: 0 };
-const END: Call = Call::End { thread: 0 };
 
 #[test]
 fn a_slot_is_kept_from_label_plus_two_on() {
@@ -56,11 +26,11 @@ fn lengths_are_exact() {
 
 #[test]
 fn a_payload_retired_in_4_is_freed_by_the_advance_from_6_and_its_delete_by_that_from_7() {
-    let mut store = fresh(4, 2, 1);
-    make(&mut store, &[BEGIN, new(9), END]);
+    let mut store = fresh(4, 1);
+    make(&mut store, &[BEGIN, new(0, 9), END]);
     tick(&mut store);
     tick(&mut store);
-    make(&mut store, &[BEGIN, Call::Delete { thread: 0, key: 9 }, END]);
+    make(&mut store, &[BEGIN, delete(0, 9), END]);
     tick(&mut store);
     tick(&mut store);
     assert_eq!((store.persistent[2], &store.persistent[3..9]), (6, &[1, 2, 1, 3, 4, 1][..]));
@@ -97,22 +67,22 @@ fn sizes_out_of_range_decline_with_1() {
 
 #[test]
 fn a_sync_after_one_fresh_job_stores_4_lines() {
-    let mut store = fresh(2, 2, 1);
-    make(&mut store, &[BEGIN, new(9), END]);
+    let mut store = fresh(2, 1);
+    make(&mut store, &[BEGIN, new(0, 9), END]);
     assert_eq!(simulate(&mut store, &Call::Sync), 4);
     assert_eq!(store.persistent, [2, 2, 4, 1, 2, 1, 0, 0, 0, 9, 9, 0, 0]);
 }
 
 #[test]
 fn a_board_of_2_with_one_job_is_full_and_can_be_emptied() {
-    let mut store = fresh(2, 2, 1);
-    make(&mut store, &[BEGIN, new(9)]);
-    assert_eq!(simulate(&mut store, &new(8)), 13);
+    let mut store = fresh(2, 1);
+    make(&mut store, &[BEGIN, new(0, 9)]);
+    assert_eq!(simulate(&mut store, &new(0, 8)), 13);
     make(&mut store, &[END]);
     tick(&mut store);
     make(&mut store, &[BEGIN]);
     assert_eq!(simulate(&mut store, &Call::Set { thread: 0, key: 9, value: vec![1] }), 13);
-    make(&mut store, &[Call::Delete { thread: 0, key: 9 }, END]);
+    make(&mut store, &[delete(0, 9), END]);
     assert_eq!(simulate(&mut store, &Call::Read { thread: 0, key: 9 }), refused(10));
 }
 
@@ -120,7 +90,7 @@ fn a_board_of_2_with_one_job_is_full_and_can_be_emptied() {
 fn recovery_sets_the_next_uid_and_begins_at_slot_0() {
     let image = image_with(3, 2, 9, &[(ALLOC, 5, 6, 3), (UPDATE, 8, 7, 4)]);
     let mut store = Store { working: vec![1; 18], persistent: image, transient: vec![1; 14] };
-    assert_eq!(simulate(&mut store, &Call::Recover), 0);
+    assert_eq!(simulate(&mut store, &Call::Recover), WENT_ON);
     assert_eq!((store.working[0], store.transient[1]), (1, 1));
     assert_eq!(simulate(&mut store, &Call::Recover), DONE);
     assert_eq!(store.working, store.persistent);

@@ -1,7 +1,9 @@
 //! Recover and the server's questions, on random images of up to 64 slots and a few of up to 1,024.
 //! Usage: recoveries SEED COUNT
 
-use differential::library::{answers, compared};
+use differential::library::{answers, compare, recover};
+use differential::numbers;
+use differential::smallest::Smallest;
 use simulator::calls::{refusal_of, transient_words, Call, WENT_ON};
 use simulator::damage::{any_image, damage_length};
 use simulator::image::Sizes;
@@ -17,11 +19,10 @@ struct Counts {
 }
 
 fn main() {
-    let arguments: Vec<u64> = std::env::args().skip(1).map(|word| word.parse().expect("a number")).collect();
-    let [seed, count] = arguments[..] else { panic!("usage: recoveries SEED COUNT") };
+    let [seed, count] = numbers("recoveries SEED COUNT");
     let mut random = Random::new(seed);
     let mut counts = Counts::default();
-    let mut smallest: Option<(usize, String)> = None;
+    let mut smallest = Smallest::default();
     for number in 0..count {
         let slots = match number % 100 {
             0..=69 => random.between(2, 8),
@@ -31,14 +32,11 @@ fn main() {
         let store = any_store(&mut random, slots);
         let length = store.persistent.len();
         let checked = questions(&store, &mut counts).and_then(|()| recovery(store, &mut random, &mut counts));
-        match checked {
-            Err(what) if smallest.as_ref().map_or(true, |(least, _)| length < *least) => smallest = Some((length, what)),
-            _ => {}
+        if let Err(what) = checked {
+            smallest.note(length, what);
         }
     }
-    if let Some((_, what)) = smallest {
-        panic!("seed {seed}, the smallest image that differs: {what}");
-    }
+    smallest.report(seed);
     let Counts { calls, went_on, refusals } = &counts;
     println!("{count} images, {calls} calls, went on {went_on}, done and refused 1 to 4 {refusals:?}, seed {seed}");
     let seen = counts.refusals[1..].iter().all(|&seen| seen >= 100) && counts.went_on >= count;
@@ -71,7 +69,7 @@ fn questions(store: &Store, counts: &mut Counts) -> Result<(), String> {
 /// Recover calls up to the one that does not go on, other junk in working and notes before each.
 fn recovery(mut store: Store, random: &mut Random, counts: &mut Counts) -> Result<(), String> {
     loop {
-        let reply = compared(&mut store, &Call::Recover)?;
+        let reply = compare(&mut store, &Call::Recover, recover)?;
         counts.calls += 1;
         if reply != WENT_ON {
             counts.refusals[refusal_of(&Call::Recover, reply) as usize] += 1;

@@ -10,7 +10,7 @@
 
 use simulator::calls::{refusal_of, simulate, transient_words, Call, WENT_ON};
 use simulator::damage::{acceptable_image, any_image, damage_length};
-use simulator::image::Sizes;
+use simulator::image::{Sizes, LARGEST};
 use simulator::lister::{bytes_of, clock_answer, survivors_answer};
 use simulator::random::Random;
 use simulator::store::Store;
@@ -98,7 +98,8 @@ impl Cases {
     fn fitting(&mut self, image: Vec<u32>, threads: u32) {
         let slots = image.first().copied().unwrap_or(0);
         let notes = transient_words(slots.clamp(2, 1024), threads);
-        self.recovery(Store { working: vec![u32::MAX; image.len()], persistent: image, transient: vec![u32::MAX; notes] });
+        let working = vec![u32::MAX; image.len()];
+        self.recovery(Store { working, persistent: image, transient: vec![u32::MAX; notes] });
     }
 
     fn stored(&mut self) {
@@ -165,12 +166,13 @@ impl Cases {
 
 /// Small images that recovery accepts: of various sizes, kinds, labels and clocks.
 fn small_images() -> Vec<Vec<u32>> {
+    let latest = LARGEST - 2;
     vec![
         EXAMPLE.to_vec(),
         image_with(2, 2, 2, &[]),
         image_with(2, 3, 9, &[(1, 5, 1, 3), (3, 7, 1, 3)]),
         image_with(3, 2, 8, &[(3, 6, 1, 3), (2, 4, 1, 3), (1, 6, 2, 4)]),
-        image_with(3, 3, 4_000_000_000, &[(1, 3_999_999_998, 4_000_000_000, 3), (2, 3_999_999_999, 1, 4), (1, 2, 2, 5)]),
+        image_with(3, 3, LARGEST, &[(1, latest, LARGEST, 3), (2, latest + 1, 1, 4), (1, 2, 2, 5)]),
         image_with(4, 2, 6, &[(1, 2, 1, 3), (2, 3, 1, 3), (2, 4, 1, 3), (2, 5, 1, 3)]),
         image_with(4, 3, 4, &[(1, 2, 1, 3), (1, 2, 2, 4), (1, 2, 3, 5), (1, 2, 4, 6)]),
         image_with(4, 2, 7, &[(3, 4, 9, 1), (3, 5, 9, 1), (1, 3, 9, 1), (1, 7, 8, 2)]),

@@ -1,0 +1,21 @@
+-- `check_entry`: each way out is a law.
+use borrow.Author.Needs.{needs}
+use Rattle.recovery.specs.Code.{laws}
+use Rattle.recovery.specs.Code.{marks, checks}
+use Rattle.recovery.specs.Stepping.{steps}
+use Rattle.recovery.proofs.step.check_entry.Statement.{statement}
+use Rattle.recovery.proofs.step.check_entry.Tie as tie
+
+pub check-entry-spec : {M : Type 1} → statement M
+check-entry-spec =
+    tie.close
+    (tie.spec
+    (λ c κs. search (needs, laws, marks, checks, steps))
+    (λ c. search (needs, laws, marks, checks, steps))
+    (λ c. search (needs, laws, marks, checks, steps))
+    (λ c κs. search (needs, laws, marks, checks, steps))
+    (λ c κs. search (needs, laws, marks, checks, steps))
+    (λ c κs. search (needs, laws, marks, checks, steps))
+    (λ c. search (needs, laws, marks, checks, steps))
+    (λ c. search (needs, laws, marks, checks, steps))
+    (λ c. search (needs, laws, marks, checks, steps)))

@@ -1,0 +1,24 @@
+-- `free_next`: each way out is a law.
+use borrow.Author.Needs.{needs}
+use Rattle.recovery.specs.Code.{laws}
+use Rattle.recovery.specs.Code.{marks, checks}
+use Rattle.recovery.specs.Stepping.{steps}
+use Rattle.recovery.proofs.step.free_next.Statement.{statement}
+use Rattle.recovery.proofs.step.free_next.Tie as tie
+
+pub free-next-spec : {M : Type 1} → statement M
+free-next-spec =
+    tie.close
+    (tie.spec
+    (λ c κs. search (needs, laws, marks, checks, steps))
+    (λ c. search (needs, laws, marks, checks, steps))
+    (λ c κs. search (needs, laws, marks, checks, steps))
+    (λ c κs. search (needs, laws, marks, checks, steps))
+    (λ c. search (needs, laws, marks, checks, steps))
+    (λ c κs. search (needs, laws, marks, checks, steps))
+    (λ c. search (needs, laws, marks, checks, steps))
+    (λ c. search (needs, laws, marks, checks, steps))
+    (λ c. search (needs, laws, marks, checks, steps))
+    (λ c. search (needs, laws, marks, checks, steps))
+    (λ c. search (needs, laws, marks, checks, steps))
+    (λ c. search (needs, laws, marks, checks, steps)))

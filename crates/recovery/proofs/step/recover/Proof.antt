@@ -1,0 +1,26 @@
+-- `recover`: each way out is a law.
+use borrow.Author.Needs.{needs}
+use Rattle.recovery.specs.Code.{laws}
+use Rattle.recovery.specs.Code.{marks, checks}
+use Rattle.recovery.specs.Stepping.{steps}
+use Rattle.recovery.proofs.step.recover.Statement.{statement}
+use Rattle.recovery.proofs.step.recover.Tie as tie
+
+pub recover-spec : {M : Type 1} → statement M
+recover-spec =
+    tie.close
+    (tie.spec
+    (λ c κs. search (needs, laws, marks, checks, steps))
+    (λ c. search (needs, laws, marks, checks, steps))
+    (λ c. search (needs, laws, marks, checks, steps))
+    (λ c. search (needs, laws, marks, checks, steps))
+    (λ c κs. search (needs, laws, marks, checks, steps))
+    (λ c. search (needs, laws, marks, checks, steps))
+    (λ c κs. search (needs, laws, marks, checks, steps))
+    (λ c κs. search (needs, laws, marks, checks, steps))
+    (λ c. search (needs, laws, marks, checks, steps))
+    (λ c. search (needs, laws, marks, checks, steps))
+    (λ c. search (needs, laws, marks, checks, steps))
+    (λ c. search (needs, laws, marks, checks, steps))
+    (λ c. search (needs, laws, marks, checks, steps))
+    (λ c. search (needs, laws, marks, checks, steps)))

@@ -1,0 +1,247 @@
+-- What the proofs of recover's step cite.
+use Prim.Native.Nat.{ℕ, _+_, _-_, _≤_, _<_, _^_}
+use mathlib.Core.Path.{_≡_, refl, sym, ap, _∙_}
+use mathlib.Core.Bool.{Bool, true, false, not, _&&_}
+use mathlib.Core.List.{List}
+use mathlib.Core.Logic.{⊎-elim}
+use lib.ListN.{length, getD, set}
+use lib.Dec.{ltb, leb, eqb}
+use mir.Val.{Fits}
+use mir.Syntax.{w32}
+use borrow.Author.Tests.{lt-ltb, le-ltb, eq-eqb, ne-eqb, eqb-true, leb-true, not-false}
+use native.Mathlib.Omega.{arith}
+use Rattle.search.specs.Bools.{cases, and-left, and-right}
+use Rattle.search.specs.First.{firstOf, First, found-first}
+use Rattle.search.specs.Largest.{largest, raised, largest-top, loops as climbs}
+use Rattle.search.specs.declared.Found.{Found}
+use Rattle.search.specs.declared.Found.the-variants.{At, Nothing}
+use Rattle.reply.specs.declared.Check.{Check}
+use Rattle.reply.specs.declared.Check.the-variants.{Accepted, Refused}
+use Rattle.reply.specs.declared.Refusal.{Refusal}
+use Rattle.reply.specs.declared.Refusal.the-variants.{Sizes, Clock}
+use Rattle.reply.specs.Refusals.{refuse}
+use Rattle.image.specs.declared.header.Header.{Header}
+use Rattle.image.specs.Layout.{filledKind, header, slotsOf, widthOf, clockOf, shapeOk, clockOk, stored, setHeader, freeHeader, HeaderFits, Sized}
+use Rattle.image.specs.Laws.{stored-whole}
+use Rattle.image.specs.Code.{shaped}
+use Rattle.transient.specs.Store.{Store, store}
+use Rattle.transient.specs.Layout.{threadsOf, threadsOk, blank}
+use Rattle.recovery.specs.Survivors.{survivor, keptAnti}
+use Rattle.recovery.specs.Accept.{headCheck, slotsCheck, proper}
+use Rattle.recovery.specs.Sound.{Sound, sound, not-refused, uid-top}
+use Rattle.recovery.specs.Recover.{antiAt, stale, orElse, nextFreed, uidOf, nextUid, lengthsFit, entryCheck, recoverCheck, Recovered, recovered, finished, freeing, judged, recover}
+use Rattle.recovery.specs.Code.{Headers, HeaderOf, Marked, AllMarked, flag-is, headers-of, header-in}
+use Rattle.recovery.specs.declared.step.Recovery.{Recovery}
+use Rattle.recovery.specs.declared.step.Recovery.the-variants.{WentOn, Done, Declined}
+
+pub record FlagAt (l : List ℕ) (n s : ℕ) (flags : List Bool) : Type 0 where
+  pub marked : Marked l n flags
+  pub within : s < n
+
+pub flag-at : {l : List ℕ} {n s : ℕ} {flags : List Bool} → Marked l n flags → s < n → FlagAt l n s flags
+flag-at z h = record { marked = z; within = h }
+
+pub flag-header : {l : List ℕ} {n s : ℕ} {flags : List Bool} → FlagAt l n s flags → HeaderFits l n s
+flag-header z = header-in (z .marked .headers) (z .within)
+
+pub flag-of : {l : List ℕ} {n s : ℕ} {flags : List Bool} → FlagAt l n s flags → HeaderOf l n s
+flag-of z = record { headers = z .marked .headers; within = z .within }
+
+-- ---- what is freed next
+pub anti-is : (l : List ℕ) (s : ℕ) {c : ℕ} {r : Bool} → c ≡ clockOf l → r ≡ keptAnti c (header l s) → r ≡ antiAt l s
+unfolding antiAt
+anti-is l s e h = rw (← e) h
+
+module _ (l : List ℕ) (n s : ℕ) (flags : List Bool) {h : Header} {f : Bool} (z : FlagAt l n s flags) (at : h ≡ header l s) (fl : f ≡ filledKind (h .kind)) where
+  pub stale-free : f ≡ false → false ≡ stale l n s
+  unfolding stale
+  stale-free e = rw (← at, ← fl, e)
+
+  pub stale-survives : f ≡ true → getD flags s false ≡ true → false ≡ stale l n s
+  unfolding stale
+  stale-survives e t = rw (← at, ← fl, e, flag-is (z .marked .flagged) (z .within) t)
+
+  pub stale-anti : {a : Bool} → f ≡ true → getD flags s false ≡ false → a ≡ antiAt l s → a ≡ true → false ≡ stale l n s
+  unfolding stale
+  stale-anti e t k y = rw (← at, ← fl, e, flag-is (z .marked .flagged) (z .within) t, ← k, y)
+
+  pub stale-yes : {a : Bool} → f ≡ true → getD flags s false ≡ false → a ≡ antiAt l s → a ≡ false → true ≡ stale l n s
+  unfolding stale
+  stale-yes e t k y = rw (← at, ← fl, e, flag-is (z .marked .flagged) (z .within) t, ← k, y)
+
+module _ (l : List ℕ) (n : ℕ) {f : Found} (st : f ≡ firstOf (stale l n) n) where
+  pub freed-stale : {s : ℕ} → f ≡ At s → At s ≡ nextFreed l n
+  unfolding nextFreed
+  freed-stale e = rw (← st, e)
+
+  pub freed-anti : {g : Found} → f ≡ Nothing → g ≡ firstOf (antiAt l) n → g ≡ nextFreed l n
+  unfolding nextFreed
+  freed-anti e h = rw (← st, e) h
+
+pub freed-below : (l : List ℕ) (n s : ℕ) → nextFreed l n ≡ At s → s < n
+unfolding nextFreed
+freed-below l n s e = go (firstOf (stale l n) n) refl
+  where
+    go : (f : Found) → firstOf (stale l n) n ≡ f → s < n
+    go (At t) q = let z : At t ≡ At s = rw q at e in let y : t ≡ s = cc in let h : t < n = found-first (stale l n) n q .below in omega arith
+    go Nothing q = let z : firstOf (antiAt l) n ≡ At s = rw q at e in found-first (antiAt l) n z .below
+
+-- ---- the next uid
+module _ (l : List ℕ) (n s b : ℕ) (flags : List Bool) (z : FlagAt l n s flags) where
+  pub raise-miss : getD flags s false ≡ false → b ≡ raised (survivor l n) (uidOf l) s b
+  unfolding raised
+  raise-miss t = rw (flag-is (z .marked .flagged) (z .within) t)
+
+  module _ {h : Header} (t : getD flags s false ≡ true) (at : h ≡ header l s) where
+    pub raise-up : b < h .uid → h .uid ≡ raised (survivor l n) (uidOf l) s b
+    unfolding raised
+    raise-up u =
+        let e : uidOf l s ≡ h .uid = ap (λ (x : Header). x .uid) (sym at) in
+        rw (flag-is (z .marked .flagged) (z .within) t, e, lt-ltb b (h .uid) u)
+
+    pub raise-level : h .uid ≤ b → b ≡ raised (survivor l n) (uidOf l) s b
+    unfolding raised
+    raise-level u =
+        let e : uidOf l s ≡ h .uid = ap (λ (x : Header). x .uid) (sym at) in
+        rw (flag-is (z .marked .flagged) (z .within) t, e, le-ltb b (h .uid) u)
+
+pub record Uids (l : List ℕ) (n : ℕ) (flags : List Bool) : Type 0 where
+  pub marked : Marked l n flags
+  pub uids : (s : ℕ) → s < n → uidOf l s ≤ 4000000000
+
+pub uid-fits : (l : List ℕ) (n : ℕ) (flags : List Bool) {b : ℕ} → Uids l n flags → b ≡ largest (survivor l n) (uidOf l) n → Fits w32 (b + 1)
+uid-fits l n flags z e = omega (arith, largest-top (survivor l n) (uidOf l) 4000000000 n (z .uids), e)
+
+pub uid-is : (l : List ℕ) (n : ℕ) {b : ℕ} → b ≡ largest (survivor l n) (uidOf l) n → b + 1 ≡ nextUid l n
+unfolding nextUid
+uid-is l n e = rw e
+
+-- ---- the last call
+pub record Finishing (wk l t : List ℕ) (flags : List Bool) (n : ℕ) : Type 0 where
+  pub uids : Uids l n flags
+  pub some : 1 ≤ n
+  pub same : length wk ≡ length l
+  pub notes : 2 ≤ length t
+
+pub finish-marked : {wk l t : List ℕ} {flags : List Bool} {n : ℕ} → Finishing wk l t flags n → Marked l n flags
+finish-marked z = z .uids .marked
+
+pub finish-header : (wk l t : List ℕ) (flags : List Bool) {n s : ℕ} {f : Found} → Finishing wk l t flags n → f ≡ nextFreed l n → f ≡ At s → HeaderFits l n s
+finish-header wk l t flags {n} {s} z e a = header-in (z .uids .marked .headers) (freed-below l n s (sym e ∙ a))
+
+pub finish-slots : {wk l t : List ℕ} {flags : List Bool} {n : ℕ} → Finishing wk l t flags n → n - 1 < 2 ^ 32
+finish-slots z = let h = z .uids .marked .headers .slots-hi in omega arith
+
+pub finish-done : (wk l t : List ℕ) (n : ℕ) {u m : ℕ} {wk′ t′ : List ℕ} → length wk ≡ length l → u ≡ nextUid l n → wk′ ≡ stored wk 0 l (length l) → m ≡ n - 1
+    → t′ ≡ blank (length t) m u → store wk′ l t′ ≡ finished l (length t) n
+unfolding finished
+finish-done wk l t n long e w m b =
+    let copy : stored wk 0 l (length l) ≡ l = ap (stored wk 0 l) (sym long) ∙ stored-whole wk l (sym long) in
+    rw (w, copy, b, e, m)
+
+module _ (wk l t : List ℕ) (n : ℕ) {f : Found} (fr : f ≡ nextFreed l n) where
+  pub free-on : {s : ℕ} {h : Header} {l′ : List ℕ} → f ≡ At s → h ≡ freeHeader → l′ ≡ setHeader l s h → recovered WentOn wk l′ t ≡ freeing (nextFreed l n) (store wk l t) n
+  free-on e q p = rw (← fr, e, p, q)
+
+  pub free-done : {wk′ t′ : List ℕ} → f ≡ Nothing → store wk′ l t′ ≡ finished l (length t) n → recovered Done wk′ l t′ ≡ freeing (nextFreed l n) (store wk l t) n
+  free-done {wk′} {t′} e p = rw (← fr, e) (ap (λ st. record { reply = Done; store = st }) p)
+
+-- ---- refusals 1 and 2
+sizes-both : (b : Bool) → Refused Sizes ≡ refuse b Sizes (Refused Sizes)
+sizes-both true = refl
+sizes-both false = refl
+
+module _ (wl : ℕ) (l : List ℕ) (tl : ℕ) {s : Bool} (sh : s ≡ shapeOk l) where
+  pub entry-shape : s ≡ false → Refused Sizes ≡ entryCheck wl l tl
+  unfolding entryCheck headCheck
+  entry-shape e = rw (← sh, e) (sizes-both (not (lengthsFit wl l tl)))
+
+  pub entry-working : s ≡ true → (wl ≡ length l → ⊥) → Refused Sizes ≡ entryCheck wl l tl
+  unfolding entryCheck lengthsFit
+  entry-working t d = rw (ne-eqb wl (length l) d)
+
+  module _ {n : ℕ} {k : Bool} (long : wl ≡ length l) (at : n ≡ slotsOf l) (th : k ≡ threadsOk tl n) where
+    pub entry-threads : k ≡ false → Refused Sizes ≡ entryCheck wl l tl
+    unfolding entryCheck lengthsFit
+    entry-threads e = rw (eq-eqb wl (length l) long, ← at, ← th, e)
+
+    pub entry-head : {r : Check} → k ≡ true → r ≡ headCheck l → r ≡ entryCheck wl l tl
+    unfolding entryCheck lengthsFit
+    entry-head e h = rw (eq-eqb wl (length l) long, ← at, ← th, e) h
+
+pub entry-first : (l : List ℕ) {s : Bool} → s ≡ shapeOk l → s ≡ true → 0 < length l
+entry-first l e t = let z = shaped l (sym e ∙ t) in omega arith
+
+pub entry-slots : (l : List ℕ) {s : Bool} {n : ℕ} → s ≡ shapeOk l → s ≡ true → n ≡ slotsOf l → n ≤ 1024
+entry-slots l e t q = let z = shaped l (sym e ∙ t) in omega arith
+
+-- ---- past refusals 1 and 2
+pub record Entered (wk l t : List ℕ) (n w : ℕ) : Type 0 where
+  pub sized : Sized l n w
+  pub same : length wk ≡ length l
+  pub notes : 2 ≤ length t
+
+entry-passed : (wk l t : List ℕ) {k : Check} → k ≡ entryCheck (length wk) l (length t) → k ≡ Accepted → Entered wk l t (slotsOf l) (widthOf l)
+unfolding entryCheck headCheck lengthsFit threadsOk
+entry-passed wk l t e a =
+    let same = eqb (length wk) (length l) in
+    let some = leb 1 (threadsOf (length t) (slotsOf l)) in
+    let few = leb (threadsOf (length t) (slotsOf l)) 16 in
+    let one = not-refused (not (same && (some && few))) Sizes (headCheck l) (sym e ∙ a) in
+    let fit : same && (some && few) ≡ true = not-false (same && (some && few)) (one .0) in
+    let two = not-refused (not (shapeOk l)) Sizes (refuse (not (clockOk (clockOf l))) Clock Accepted) (one .1) in
+    let threads : 1 ≤ threadsOf (length t) (slotsOf l) = leb-true _ _ (and-left some few (and-right same (some && few) fit)) in
+    record {
+    sized = shaped l (not-false (shapeOk l) (two .0));
+    same = eqb-true (length wk) (length l) (and-left same (some && few) fit);
+    notes = omega arith;
+    }
+
+pub entered : (wk l t : List ℕ) {k : Check} {n w : ℕ} → k ≡ entryCheck (length wk) l (length t) → k ≡ Accepted → n ≡ slotsOf l → w ≡ widthOf l → Entered wk l t n w
+entered wk l t e a p q = rw (p, q) (entry-passed wk l t e a)
+
+pub entered-long : (wk l t : List ℕ) (j : ℕ) {k : Check} → k ≡ entryCheck (length wk) l (length t) → k ≡ Accepted → j < 3 → j < length l
+entered-long wk l t j e a h = let z = entry-passed wk l t e a .sized in omega arith
+
+unfoldable pub stepped : Store → ℕ → ℕ → Recovered
+stepped st n w = judged (slotsCheck (st .persistent) n w) st n
+
+pub entered-headers : {wk l t : List ℕ} {n w : ℕ} → Entered wk l t n w → Headers l n
+entered-headers z = headers-of (z .sized)
+
+pub entered-marked : {wk l t : List ℕ} {flags : List Bool} {n w : ℕ} → Entered wk l t n w → Marked l n flags → AllMarked l n w flags
+entered-marked z m = record { sized = z .sized; flagged = m .flagged }
+
+pub entered-finishing : {wk l t : List ℕ} {flags : List Bool} {n w : ℕ} {k : Check} → Entered wk l t n w → Marked l n flags
+    → k ≡ slotsCheck l n w → k ≡ Accepted → Finishing wk l t flags n
+entered-finishing {wk} {l} {t} {flags} {n} {w} z m c a =
+    let s : Sound l n w = sound l n w (sym c ∙ a) in
+    record {
+    uids = record {
+      marked = m;
+      uids = λ i h. uid-top (clockOf l) (header l i) (s .all-proper i h);
+    };
+    some = omega (arith, z .sized .sizes .slots-lo);
+    same = z .same;
+    notes = z .notes;
+    }
+
+module _ (wk l t : List ℕ) (n w : ℕ) {k : Check} (c : k ≡ slotsCheck l n w) where
+  pub step-declines : {r : Refusal} → k ≡ Refused r → recovered (Declined r) wk l t ≡ stepped (store wk l t) n w
+  unfolding stepped
+  step-declines a = rw (← c, a)
+
+  pub step-goes : {r : Recovered} → k ≡ Accepted → r ≡ freeing (nextFreed l n) (store wk l t) n → r ≡ stepped (store wk l t) n w
+  unfolding stepped
+  step-goes a h = rw (← c, a) h
+
+module _ (wk l t : List ℕ) {k : Check} (c : k ≡ entryCheck (length wk) l (length t)) where
+  pub recover-declines : {r : Refusal} → k ≡ Refused r → recovered (Declined r) wk l t ≡ recover (store wk l t)
+  unfolding recover recoverCheck
+  recover-declines a = rw (← c, a)
+
+  pub recover-goes : (n w : ℕ) {r : Recovered} → k ≡ Accepted → n ≡ slotsOf l → w ≡ widthOf l → r ≡ stepped (store wk l t) n w → r ≡ recover (store wk l t)
+  unfolding recover recoverCheck stepped
+  recover-goes n w a p q h = rw (← c, a, ← p, ← q) h
+
+pub ruleset steps = (climbs, flag-at, flag-header, flag-of, anti-is, stale-free, stale-survives, stale-anti, stale-yes, freed-stale, freed-anti, raise-miss, raise-up, raise-level, uid-fits, uid-is, finish-marked, finish-header, finish-slots, finish-done, free-on, free-done, entry-shape, entry-working, entry-threads, entry-head, entry-first, entry-slots, entered, entered-long, entered-marked, entered-headers, entered-finishing, step-declines, step-goes, recover-declines, recover-goes)

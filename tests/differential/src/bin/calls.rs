@@ -1,0 +1,109 @@
+//! Format, begin, end, new, set, delete, read and the lengths, on honest, damaged and wild stores.
+//! Usage: calls SEED COUNT
+
+use differential::library::{change, compare, lengths};
+use differential::numbers;
+use differential::smallest::Smallest;
+use simulator::calls::{image_words, refusal_of, simulate, transient_words, Call};
+use simulator::damage::{damage_length, damaged_store, edge_word, wild_store};
+use simulator::generator::{epoch_call, job_call, start, unformatted};
+use simulator::random::Random;
+use simulator::store::Store;
+
+/// The refusals these calls can give.
+const REFUSALS: [usize; 11] = [1, 2, 5, 6, 7, 8, 9, 10, 11, 12, 13];
+
+/// Upper ends for the number of slots, most of them small.
+const MOST_SLOTS: [u32; 12] = [4, 5, 6, 7, 8, 8, 9, 9, 12, 24, 64, 1024];
+
+struct Test {
+    random: Random,
+    calls: u64,
+    accepted: u64,
+    refusals: [u64; 17],
+    smallest: Smallest,
+}
+
+fn main() {
+    let [seed, count] = numbers("calls SEED COUNT");
+    let random = Random::new(seed);
+    let mut test = Test { random, calls: 0, accepted: 0, refusals: [0; 17], smallest: Smallest::default() };
+    while test.calls < count {
+        let most = test.random.pick(&MOST_SLOTS);
+        let slots = test.random.between(2, most);
+        test.formats(slots);
+        test.lengths(slots);
+        test.honest(slots);
+        let wild = wild_store(&mut test.random, slots);
+        test.changes(wild, 12);
+    }
+    let Test { calls, accepted, refusals, smallest, .. } = test;
+    smallest.report(seed);
+    println!("{calls} calls, {accepted} accepted, refusals by number {refusals:?}, seed {seed}");
+    assert!(REFUSALS.iter().all(|&refusal| refusals[refusal] >= 100), "too few of some refusal");
+}
+
+impl Test {
+    /// One call on both sides. The store goes on as the simulator leaves it.
+    fn make(&mut self, store: &mut Store, call: &Call) {
+        self.calls += 1;
+        match compare(store, call, change) {
+            Ok(reply) => match refusal_of(call, reply) {
+                0 => self.accepted += 1,
+                refusal => self.refusals[refusal as usize] += 1,
+            },
+            Err(what) => self.smallest.note(store.working.len() + store.transient.len(), what),
+        }
+    }
+
+    fn changes(&mut self, mut store: Store, count: usize) {
+        for _ in 0..count {
+            let call = job_call(&mut self.random, &store, 4);
+            self.make(&mut store, &call);
+        }
+    }
+
+    /// A run whose epochs move on by the simulator's hand, with side steps into damaged copies of the store.
+    fn honest(&mut self, slots: u32) {
+        let mut store = start(&mut self.random, slots);
+        let keys = self.random.between(2, slots + 2);
+        for _ in 0..80 {
+            if self.random.chance(30) {
+                let call = epoch_call(&mut self.random, &store);
+                simulate(&mut store, &call);
+                continue;
+            }
+            let call = job_call(&mut self.random, &store, keys);
+            self.make(&mut store, &call);
+            if self.random.chance(10) {
+                let damaged = damaged_store(&mut self.random, &store);
+                self.changes(damaged, 5);
+            }
+        }
+    }
+
+    /// Format on slices that hold any words, of the lengths for these sizes and of wrong ones.
+    fn formats(&mut self, slots: u32) {
+        let (words, threads) = (self.random.between(2, 9), self.random.between(1, 16));
+        let mut store = unformatted(&mut self.random, slots, words, threads);
+        let mut wrong = store.clone();
+        let slice = self.random.below(3);
+        damage_length(&mut self.random, wrong.slices()[slice]);
+        self.make(&mut wrong, &Call::Format { slots, words });
+        let (odd_slots, odd_words) = (edge_word(&mut self.random, slots), edge_word(&mut self.random, words));
+        self.make(&mut store, &Call::Format { slots: odd_slots, words: odd_words });
+        self.make(&mut store, &Call::Format { slots, words });
+    }
+
+    fn lengths(&mut self, slots: u32) {
+        self.calls += 2;
+        let slots = if self.random.chance(50) { slots } else { self.random.pick(&[0, 1, 2, 1024, 1025, u32::MAX]) };
+        let words = self.random.pick(&[0, 1, 2, 5, 9, 10, u32::MAX]);
+        let threads = self.random.pick(&[0, 1, 7, 16, 17, u32::MAX]);
+        let wanted = [image_words(slots, words), transient_words(slots, threads)];
+        let given = lengths(slots, words, threads);
+        if given != wanted {
+            self.smallest.note(0, format!("lengths for {slots}, {words}, {threads}: {given:?}, wanted {wanted:?}"));
+        }
+    }
+}
