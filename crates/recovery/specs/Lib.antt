@@ -4,3 +4,4 @@ pub mod Recover
 pub mod Sound
 pub mod Code
 pub mod Stepping
+pub mod Questions

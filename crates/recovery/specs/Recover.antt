@@ -11,7 +11,7 @@ use Rattle.search.specs.declared.Found.the-variants.{At, Nothing}
 use Rattle.reply.specs.declared.Check.{Check}
 use Rattle.reply.specs.declared.Check.the-variants.{Accepted, Refused}
 use Rattle.reply.specs.declared.Refusal.the-variants.{Sizes}
-use Rattle.reply.specs.Refusals.{refuse, andThen, refusalNumber}
+use Rattle.reply.specs.Refusals.{refuse, andThen, declinedNumber}
 use Rattle.image.specs.Layout.{filledKind, header, slotsOf, widthOf, clockOf, setHeader, freeHeader}
 use Rattle.transient.specs.Store.{Store, store}
 use Rattle.transient.specs.Layout.{threadsOk, blank}
@@ -84,4 +84,4 @@ recover st = judged (recoverCheck st) st (slotsOf (st .persistent))
 abbrev pub recoveryNumber : Recovery → ℕ
 recoveryNumber WentOn = 0
 recoveryNumber Done = 1
-recoveryNumber (Declined r) = 4294967296 + refusalNumber r
+recoveryNumber (Declined r) = declinedNumber r

@@ -238,3 +238,25 @@ pub fn check_slots(img: &[u32], flags: &[bool; 1024], n: usize, w: usize) -> Che
         Check::Refused(Refusal::BadSlot)
     }
 }
+
+fn check_sized(img: &[u32], n: usize, w: usize) -> Check
+    requires { ⌜ Sized (now img) n w ⌝ }
+    ensures { λ r. ⌜ r ≡ slotsCheck (now (img .entry)) n w ⌝ }
+{
+    let flags = crate::survivors::survivors(img, n);
+    check_slots(img, &flags, n, w)
+}
+
+// An image alone: refusals 1 to 4.
+pub fn check(img: &[u32]) -> Check
+    ensures { λ r. ⌜ r ≡ imageCheck (now (img .entry)) ⌝ }
+{
+    match check_head(img) {
+        Check::Refused(r) => Check::Refused(r),
+        Check::Accepted => {
+            let n = image::shape::wide(img[0]);
+            let w = image::shape::wide(img[1]);
+            check_sized(img, n, w)
+        }
+    }
+}

@@ -1,4 +1,5 @@
-// Recovery: which slots survive a crash, what is refused, and one step of recover.
+// Recovery: which slots survive a crash, what is refused, one step of recover, and the questions that an image answers.
 pub mod accept;
+pub mod questions;
 pub mod step;
 pub mod survivors;

@@ -1,5 +1,5 @@
 -- The numbers of refusals, and the order in which a call asks for them.
-use Prim.Native.Nat.{ℕ}
+use Prim.Native.Nat.{ℕ, _+_}
 use mathlib.Core.Path.{_≡_, refl, sym, _∙_}
 use mathlib.Core.Bool.{Bool, true, false, cond}
 use Rattle.reply.specs.declared.Refusal.{Refusal}
@@ -26,6 +26,10 @@ refusalNumber StillOpen = 14
 refusalNumber LastEpoch = 15
 refusalNumber NoLine = 16
 
+-- 01: "Each comes back as one 64-bit number, or 4,294,967,296 plus the number of the recovery refusal."
+abbrev pub declinedNumber : Refusal → ℕ
+declinedNumber r = 4294967296 + refusalNumber r
+
 -- 01: "Within a call the lowest number that applies is returned": where the condition holds that refusal, else what follows
 abbrev pub refuse : Bool → Refusal → Check → Check
 refuse b r rest = cond b (Refused r) rest
@@ -34,3 +38,8 @@ refuse b r rest = cond b (Refused r) rest
 abbrev pub andThen : Check → Check → Check
 andThen Accepted next = next
 andThen (Refused r) next = Refused r
+
+-- a number where the check accepts
+abbrev pub answered : Check → ℕ → ℕ
+answered Accepted k = k
+answered (Refused r) k = declinedNumber r

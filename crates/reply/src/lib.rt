@@ -1,6 +1,6 @@
 // Why a call declines, and the verdict that every check gives.
 ghost use mathlib.Core.Path.{_≡_};
-ghost use Rattle.reply.specs.Refusals.{refusalNumber};
+ghost use Rattle.reply.specs.Refusals.{refusalNumber, declinedNumber};
 
 // One case for each number of 01's table "Where each call can decline".
 pub enum Refusal {
@@ -57,4 +57,11 @@ pub fn number(r: Refusal) -> u32
         Refusal::LastEpoch => 15,
         Refusal::NoLine => 16,
     }
+}
+
+// A refusal where the answer is a 64-bit number: 2^32 plus 01's number.
+pub fn declined(r: Refusal) -> u64
+    ensures { λ k. ⌜ k ≡ declinedNumber r ⌝ }
+{
+    4294967296 + (number(r) as u64)
 }

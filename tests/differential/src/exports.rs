@@ -13,19 +13,43 @@ extern "C" {
     pub fn board_begin(w: Words, wl: usize, p: Words, pl: usize, t: Words, tl: usize, thread: u32) -> u32;
     pub fn board_end(w: Words, wl: usize, p: Words, pl: usize, t: Words, tl: usize, thread: u32) -> u32;
     pub fn board_new(
-        w: Words, wl: usize, p: Words, pl: usize, t: Words, tl: usize,
-        thread: u32, key: u32, value: *const u32, length: usize,
+        w: Words,
+        wl: usize,
+        p: Words,
+        pl: usize,
+        t: Words,
+        tl: usize,
+        thread: u32,
+        key: u32,
+        value: *const u32,
+        length: usize,
     ) -> u32;
     pub fn board_set(
-        w: Words, wl: usize, p: Words, pl: usize, t: Words, tl: usize,
-        thread: u32, key: u32, value: *const u32, length: usize,
+        w: Words,
+        wl: usize,
+        p: Words,
+        pl: usize,
+        t: Words,
+        tl: usize,
+        thread: u32,
+        key: u32,
+        value: *const u32,
+        length: usize,
     ) -> u32;
     pub fn board_delete(w: Words, wl: usize, p: Words, pl: usize, t: Words, tl: usize, thread: u32, key: u32) -> u32;
     pub fn board_read(w: Words, wl: usize, p: Words, pl: usize, t: Words, tl: usize, thread: u32, key: u32) -> u64;
     pub fn board_read_refusal(
-        w: Words, wl: usize, p: Words, pl: usize, t: Words, tl: usize, thread: u32, key: u32,
+        w: Words,
+        wl: usize,
+        p: Words,
+        pl: usize,
+        t: Words,
+        tl: usize,
+        thread: u32,
+        key: u32,
     ) -> u32;
     pub fn board_advance(w: Words, wl: usize, p: Words, pl: usize, t: Words, tl: usize) -> u64;
     pub fn board_sync(w: Words, wl: usize, p: Words, pl: usize, t: Words, tl: usize) -> u64;
-    pub fn board_write_back(w: Words, wl: usize, p: Words, pl: usize, t: Words, tl: usize, slot: u32, line: u32) -> u32;
+    pub fn board_write_back(w: Words, wl: usize, p: Words, pl: usize, t: Words, tl: usize, slot: u32, line: u32)
+        -> u32;
 }

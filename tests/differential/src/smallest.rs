@@ -5,7 +5,7 @@ pub struct Smallest(Option<(usize, String)>);
 
 impl Smallest {
     pub fn note(&mut self, size: usize, what: String) {
-        if self.0.as_ref().map_or(true, |(least, _)| size < *least) {
+        if self.0.as_ref().is_none_or(|(least, _)| size < *least) {
             self.0 = Some((size, what));
         }
     }

@@ -118,7 +118,11 @@ pub fn read(store: &Store, thread: u32, key: u32) -> Result<usize, Refusal> {
 /// Refusal 5.
 fn existing_thread(entry: &Entry, thread: u32) -> Result<usize, Refusal> {
     let thread = thread as usize;
-    if thread < entry.layout.threads { Ok(thread) } else { Err(5) }
+    if thread < entry.layout.threads {
+        Ok(thread)
+    } else {
+        Err(5)
+    }
 }
 
 /// Refusals 1, 2, 5 and 7, and the caller's open epoch.
@@ -134,7 +138,11 @@ fn open_operation(store: &Store, thread: u32) -> Result<(Entry, u32), Refusal> {
 /// Refusal 8: "key 0; for new and set, value length not V"
 fn judge_key(entry: &Entry, key: u32, value: Option<&[u32]>) -> Result<(), Refusal> {
     let wrong_length = value.is_some_and(|value| value.len() != entry.sizes.value_words());
-    if key == 0 || wrong_length { Err(8) } else { Ok(()) }
+    if key == 0 || wrong_length {
+        Err(8)
+    } else {
+        Ok(())
+    }
 }
 
 /// Refusal 9: "a filled slot with this key is labelled above e"
@@ -143,7 +151,11 @@ fn judge_newer(store: &Store, entry: &Entry, epoch: u32, key: u32) -> Result<(),
         let header = entry.header(store, slot);
         header.is_filled() && header.epoch > epoch && entry.sizes.key(&store.working, slot) == key
     };
-    if entry.slots().any(newer) { Err(9) } else { Ok(()) }
+    if entry.slots().any(newer) {
+        Err(9)
+    } else {
+        Ok(())
+    }
 }
 
 /// "of several live slots with one key, the lowest"

@@ -72,7 +72,11 @@ pub struct Mix {
 
 /// A call of a run: any but format and recover.
 pub fn any_call(random: &mut Random, store: &Store, mix: Mix) -> Call {
-    if random.chance(mix.advances) { epoch_call(random, store) } else { job_call(random, store, mix.keys) }
+    if random.chance(mix.advances) {
+        epoch_call(random, store)
+    } else {
+        job_call(random, store, mix.keys)
+    }
 }
 
 pub fn epoch_call(random: &mut Random, store: &Store) -> Call {
@@ -140,7 +144,11 @@ fn any_key(random: &mut Random, store: &Store, entry: Option<Entry>, keys: u32, 
     match entry {
         Some(entry) if wants_held && random.chance(80) => {
             let held: Vec<usize> = entry.slots().filter(|&slot| entry.is_live(store, slot)).collect();
-            if held.is_empty() { 1 } else { entry.sizes.key(&store.working, random.pick(&held)) }
+            if held.is_empty() {
+                1
+            } else {
+                entry.sizes.key(&store.working, random.pick(&held))
+            }
         }
         _ => random.between(1, keys),
     }

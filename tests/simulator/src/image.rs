@@ -113,9 +113,8 @@ impl Header {
 
     /// "A filled mark has a label from 2 to the clock and a uid from 1 to 4,000,000,000."
     pub fn is_proper(self, clock: u32) -> bool {
-        let properly_filled = self.is_filled()
-            && (FIRST_CLOCK..=clock).contains(&self.epoch)
-            && (1..=LARGEST).contains(&self.uid);
+        let properly_filled =
+            self.is_filled() && (FIRST_CLOCK..=clock).contains(&self.epoch) && (1..=LARGEST).contains(&self.uid);
         self == Header::FREE || properly_filled
     }
 

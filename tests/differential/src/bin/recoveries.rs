@@ -63,7 +63,11 @@ fn questions(store: &Store, counts: &mut Counts) -> Result<(), String> {
     let wanted = [clock_answer(&bytes), survivors_answer(&bytes)];
     let found = answers(&bytes);
     counts.calls += 2;
-    if found == wanted { Ok(()) } else { Err(format!("answers {found:?}, wanted {wanted:?}, on {store:?}")) }
+    if found == wanted {
+        Ok(())
+    } else {
+        Err(format!("answers {found:?}, wanted {wanted:?}, on {store:?}"))
+    }
 }
 
 /// Recover calls up to the one that does not go on, other junk in working and notes before each.

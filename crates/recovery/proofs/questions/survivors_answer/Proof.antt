@@ -1,0 +1,21 @@
+-- `survivors_answer`: each way out is a law.
+use borrow.Author.Needs.{needs}
+use Rattle.recovery.specs.Code.{laws}
+use Rattle.recovery.specs.Code.{marks, checks}
+use Rattle.recovery.specs.Questions.{asks}
+use Rattle.recovery.proofs.questions.survivors_answer.Statement.{statement}
+use Rattle.recovery.proofs.questions.survivors_answer.Tie as tie
+
+pub survivors-answer-spec : {M : Type 1} → statement M
+survivors-answer-spec =
+    tie.close
+    (tie.spec
+    (λ c κs. search (needs, laws, marks, checks, asks))
+    (λ c. search (needs, laws, marks, checks, asks))
+    (λ c κs. search (needs, laws, marks, checks, asks))
+    (λ c. search (needs, laws, marks, checks, asks))
+    (λ c. search (needs, laws, marks, checks, asks))
+    (λ c κs. search (needs, laws, marks, checks, asks))
+    (λ c κs. search (needs, laws, marks, checks, asks))
+    (λ c. search (needs, laws, marks, checks, asks))
+    (λ c. search (needs, laws, marks, checks, asks)))
