@@ -1,0 +1,3 @@
+// The public calls, for C: include/board.h is their C view. None requires anything: bad input is refused.
+pub mod questions;
+pub mod recover;
