@@ -2,8 +2,7 @@
 use reply::Refusal;
 ghost use mathlib.Core.Path.{_≡_};
 ghost use Rattle.image.specs.Bytes.{wordsOf};
-ghost use Rattle.recovery.specs.Questions.{clockAnswer, survivorsAnswer, clockOfBytes, survivorsOfBytes};
-ghost use Rattle.board.specs.Code.{Buffered};
+ghost use Rattle.recovery.specs.Questions.{Buffered, clockAnswer, survivorsAnswer, clockOfBytes, survivorsOfBytes};
 
 fn clock_in(bytes: &[u8], words: &mut [u32]) -> u64
     requires { ⌜ Buffered (now bytes) (now words) ⌝ }

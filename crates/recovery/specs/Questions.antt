@@ -3,17 +3,21 @@ use Prim.Native.Nat.{ℕ, _*_, _/_, _%_, _≤_, _<_}
 use mathlib.Core.Path.{_≡_, refl, sym, ap, _∙_}
 use mathlib.Core.Bool.{Bool, true, false, not, _&&_}
 use mathlib.Core.List.{List}
-use lib.ListN.{length}
+use lib.ListN.{length, take}
+use lib.Seq.{length-take-le}
 use lib.Dec.{leb, eqb}
-use borrow.Author.Tests.{not-false}
+use borrow.Author.Tests.{not-false, leb-true, eqb-true}
 use native.Mathlib.Omega.{arith}
+use native.Mathlib.Nat.{div-add-mod'}
+use Rattle.search.specs.Bools.{and-left, and-right}
 use Rattle.reply.specs.declared.Check.{Check}
 use Rattle.reply.specs.declared.Check.the-variants.{Accepted, Refused}
 use Rattle.reply.specs.declared.Refusal.{Refusal}
 use Rattle.reply.specs.declared.Refusal.the-variants.{Sizes, Clock}
 use Rattle.reply.specs.Refusals.{refuse, answered, declinedNumber}
-use Rattle.image.specs.Layout.{slotsOf, widthOf, clockOf, shapeOk, clockOk, Sized}
-use Rattle.image.specs.Bytes.{wordsOf}
+use Rattle.image.specs.Layout.{slotsOf, widthOf, clockOf, shapeOk, clockOk, stored, Sized}
+use Rattle.image.specs.Bytes.{wordsOf, Decodes, words-length}
+use Rattle.image.specs.Laws.{stored-front, length-stored}
 use Rattle.image.specs.Code.{shaped}
 use Rattle.recovery.specs.Survivors.{survivorCount}
 use Rattle.recovery.specs.Accept.{headCheck, slotsCheck, imageCheck}
@@ -93,5 +97,36 @@ module _ (l : List ℕ) {k : Check} (c : k ≡ imageCheck l) where
 
   pub image-headers : {n : ℕ} → k ≡ Accepted → n ≡ slotsOf l → Headers l n
   image-headers a p = rw p (headers-of (image-sized l (sym c ∙ a)))
+
+-- ---- bytes that make whole words, and a buffer for the largest image
+pub record Buffered (bytes words : List ℕ) : Type 0 where
+  pub whole : length bytes ≡ 4 * (length bytes / 4)
+  pub few : length bytes ≤ 49164
+  pub long : length words ≡ 12291
+
+pub buffered : {bytes words : List ℕ} {b : Bool} → b ≡ bytesOk (length bytes) → b ≡ true → length words ≡ 12291 → Buffered bytes words
+unfolding bytesOk
+buffered {bytes} e t long =
+    let z : length bytes % 4 ≡ 0 = eqb-true _ _ (and-left (eqb (length bytes % 4) 0) (leb (length bytes) 49164) (sym e ∙ t)) in
+    record {
+    whole = omega (arith, div-add-mod' (length bytes) 4);
+    few = leb-true _ _ (and-right (eqb (length bytes % 4) 0) (leb (length bytes) 49164) (sym e ∙ t));
+    long = long;
+    }
+
+pub decodes : {bytes words : List ℕ} → Buffered bytes words → Decodes bytes words (length bytes / 4)
+decodes z = record { whole = z .whole; room = omega (arith, z .whole, z .few, z .long) }
+
+module _ (bytes words : List ℕ) {words′ : List ℕ} (z : Buffered bytes words) (d : words′ ≡ stored words 0 (wordsOf bytes) (length bytes / 4)) where
+  pub prefix-fits : length bytes / 4 ≤ length words′
+  prefix-fits = rw (d, length-stored words 0 (wordsOf bytes) (length bytes / 4)) (decodes z .room)
+
+  pub prefix-long : length bytes / 4 ≡ length (take (length bytes / 4) words′)
+  prefix-long = sym (length-take-le (length bytes / 4) words′ prefix-fits)
+
+  pub prefix-is : take (length bytes / 4) words′ ≡ wordsOf bytes
+  prefix-is = rw d (stored-front words (wordsOf bytes) (length bytes / 4) (words-length (length bytes / 4) bytes (z .whole)) (decodes z .room))
+
+pub ruleset decoding = (buffered, decodes, prefix-fits, prefix-long)
 
 pub ruleset asks = (check-declines, check-goes, check-long, check-sized, sized-marked, clock-declines, clock-goes, survivors-declines, survivors-goes, image-long, image-head, image-headers)

@@ -1,0 +1,73 @@
+/* The epoch-kept board: a crash-safe store of courier jobs in lent memory.
+ *
+ * A store is three blocks of 32-bit words that you own:
+ *
+ *   working     the image that calls change;
+ *   persistent  the image that survives a power cut, of the same layout and length;
+ *   transient   the store's notes, lost at a power cut.
+ *
+ * An image of N slots (2 to 1,024) with W words of contents each (2 to 9) has 3 + 3N + WN words:
+ * N, W, the clock, then N headers (kind, epoch, uid), then N contents (key, W - 1 value words).
+ * The notes of T threads (1 to 16) have 4 + T + 3N words.
+ *
+ * Every length below is in words, except that of an image's bytes. A call accepts any lengths and
+ * any words: it refuses what is not a store, and a refusal changes nothing. The pointers must be
+ * valid for their lengths, and the three blocks must not overlap. A call keeps no pointer,
+ * allocates nothing and always returns. Calls on one store are made one after another.
+ */
+#ifndef BOARD_H
+#define BOARD_H
+
+#include <stddef.h>
+#include <stdint.h>
+
+#ifdef __cplusplus
+extern "C" {
+#endif
+
+/* Why a call declines. A call that declines for several reasons gives the lowest number. */
+enum board_refusal {
+    BOARD_SIZES = 1,     /* N, W or T out of range, or a length that does not fit them */
+    BOARD_CLOCK = 2,     /* the clock is not between 2 and 4,000,000,000 */
+    BOARD_BAD_SLOT = 3,  /* a header neither free nor proper, or a surviving job with key 0 */
+    BOARD_DUPLICATE = 4  /* two kept slots of one uid and epoch, or two surviving jobs of one key */
+};
+
+/* A 64-bit answer of BOARD_REFUSED or more is a refusal: BOARD_REFUSED plus its number. */
+#define BOARD_REFUSED UINT64_C(4294967296)
+
+/* What one recover call did. */
+enum board_recovery {
+    BOARD_WENT_ON = 0, /* it freed one header of the persistent image: call again */
+    BOARD_DONE = 1     /* nothing was left to free: the store is ready */
+};
+
+/* One step of recovery, after a power cut. What working and transient hold does not matter; only
+ * their lengths are judged. Each call checks the persistent image and stores into one header of it
+ * at most; flush that header before you call again. Call until BOARD_DONE: at most N calls go on
+ * before it. Only that last call fills working and transient. A power cut between or within these
+ * calls does no harm: begin again. An image that is accepted once is accepted to the end.
+ *
+ *     uint64_t r;
+ *     while ((r = board_recover(w, wn, p, pn, t, tn)) == BOARD_WENT_ON)
+ *         flush(p);
+ *     if (r >= BOARD_REFUSED)
+ *         complain((enum board_refusal)(r - BOARD_REFUSED));
+ *
+ * Refusals: BOARD_SIZES, BOARD_CLOCK, BOARD_BAD_SLOT, BOARD_DUPLICATE. */
+uint64_t board_recover(uint32_t *working, size_t working_words,
+                       uint32_t *persistent, size_t persistent_words,
+                       uint32_t *transient, size_t transient_words);
+
+/* The clock of an image, given as bytes: four to a word, lowest first. Nothing is changed, and the
+ * image need not be aligned. Refusals as for board_recover, judged on the image alone. */
+uint64_t board_clock(const uint8_t *image, size_t bytes);
+
+/* How many jobs recovery of this image would give. Otherwise as board_clock. */
+uint64_t board_survivors(const uint8_t *image, size_t bytes);
+
+#ifdef __cplusplus
+}
+#endif
+
+#endif
