@@ -12,6 +12,10 @@
 #define REFUSED UINT64_C(4294967296)
 #define LAST_REFUSAL 4
 
+_Static_assert(BOARD_REFUSED == REFUSED && BOARD_WENT_ON == 0 && BOARD_DONE == 1, "the header's replies");
+_Static_assert(BOARD_SIZES == 1 && BOARD_CLOCK == 2 && BOARD_BAD_SLOT == 3 && BOARD_DUPLICATE == LAST_REFUSAL,
+               "the header's refusals");
+
 struct file {
     uint32_t *words;
     size_t length;

@@ -10,10 +10,10 @@ use Rattle.reply.specs.Refusals.{declinedNumber}
 use Rattle.image.specs.Layout.{stored}
 use Rattle.image.specs.Bytes.{wordsOf}
 use Rattle.transient.specs.Store.{Store, store}
-use Rattle.recovery.specs.Questions.{Buffered, prefix-is, decoding, bytesOk, clockAnswer, survivorsAnswer, clockOfBytes, survivorsOfBytes}
+use Rattle.acceptance.specs.Questions.{Buffered, prefix-is, decoding, bytesOk, clockAnswer, survivorsAnswer, clockOfBytes, survivorsOfBytes}
 use Rattle.recovery.specs.Recover.{Recovered, recovered, recover, recoveryNumber}
-use Rattle.recovery.specs.declared.step.Recovery.{Recovery}
-use Rattle.recovery.specs.declared.step.Recovery.the-variants.{WentOn, Done, Declined}
+use Rattle.recovery.specs.declared.Recovery.{Recovery}
+use Rattle.recovery.specs.declared.Recovery.the-variants.{WentOn, Done, Declined}
 use Rattle.board.specs.Calls.{Called, called, recoveredCall, recoverCall}
 
 -- ---- recover

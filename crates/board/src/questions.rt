@@ -2,7 +2,7 @@
 use reply::Refusal;
 ghost use mathlib.Core.Path.{_≡_};
 ghost use Rattle.image.specs.Bytes.{wordsOf};
-ghost use Rattle.recovery.specs.Questions.{Buffered, clockAnswer, survivorsAnswer, clockOfBytes, survivorsOfBytes};
+ghost use Rattle.acceptance.specs.Questions.{Buffered, clockAnswer, survivorsAnswer, clockOfBytes, survivorsOfBytes};
 
 fn clock_in(bytes: &[u8], words: &mut [u32]) -> u64
     requires { ⌜ Buffered (now bytes) (now words) ⌝ }
@@ -10,14 +10,14 @@ fn clock_in(bytes: &[u8], words: &mut [u32]) -> u64
 {
     let k = bytes.len() / 4;
     image::bytes::decode(bytes, words, k);
-    recovery::questions::clock_answer(&words[..k])
+    acceptance::questions::clock_answer(&words[..k])
 }
 
 #[no_mangle]
 pub extern "C" fn board_clock(bytes: &[u8]) -> u64
     ensures { λ r. ⌜ r ≡ clockOfBytes (now (bytes .entry)) ⌝ }
 {
-    if recovery::questions::bytes_ok(bytes.len()) {
+    if acceptance::questions::bytes_ok(bytes.len()) {
         let mut words = [0u32; 12291];
         clock_in(bytes, &mut words)
     } else {
@@ -31,14 +31,14 @@ fn survivors_in(bytes: &[u8], words: &mut [u32]) -> u64
 {
     let k = bytes.len() / 4;
     image::bytes::decode(bytes, words, k);
-    recovery::questions::survivors_answer(&words[..k])
+    acceptance::questions::survivors_answer(&words[..k])
 }
 
 #[no_mangle]
 pub extern "C" fn board_survivors(bytes: &[u8]) -> u64
     ensures { λ r. ⌜ r ≡ survivorsOfBytes (now (bytes .entry)) ⌝ }
 {
-    if recovery::questions::bytes_ok(bytes.len()) {
+    if acceptance::questions::bytes_ok(bytes.len()) {
         let mut words = [0u32; 12291];
         survivors_in(bytes, &mut words)
     } else {

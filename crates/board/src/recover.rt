@@ -1,15 +1,19 @@
 // One recover call.
-use recovery::step::Recovery;
+use recovery::Recovery;
 ghost use mathlib.Core.Path.{_≡_};
 ghost use Rattle.transient.specs.Store.{store};
 ghost use Rattle.board.specs.Calls.{called, recoverCall};
 
 // 0 went on, 1 done, or 2^32 plus the refusal.
 #[no_mangle]
-pub extern "C" fn board_recover(working: &mut [u32], persistent: &mut [u32], transient: &mut [u32]) -> u64
+pub extern "C" fn board_recover(
+    working: &mut [u32],
+    persistent: &mut [u32],
+    transient: &mut [u32],
+) -> u64
     ensures { λ r. ⌜ called r (now (working .exit)) (now (persistent .exit)) (now (transient .exit)) ≡ recoverCall (store (now (working .entry)) (now (persistent .entry)) (now (transient .entry))) ⌝ }
 {
-    match recovery::step::recover(working, persistent, transient) {
+    match recovery::recover(working, persistent, transient) {
         Recovery::WentOn => 0,
         Recovery::Done => 1,
         Recovery::Declined(r) => reply::declined(r),

@@ -93,10 +93,10 @@ sizes-true n w {r} e t =
     let h1 : leb n 1024 && (leb 2 w && leb w 9) ≡ true = and-right (leb 2 n) (leb n 1024 && (leb 2 w && leb w 9)) h in
     let h2 : leb 2 w && leb w 9 ≡ true = and-right (leb n 1024) (leb 2 w && leb w 9) h1 in
     record {
-    slots-lo = leb-true 2 n (and-left (leb 2 n) (leb n 1024 && (leb 2 w && leb w 9)) h);
-    slots-hi = leb-true n 1024 (and-left (leb n 1024) (leb 2 w && leb w 9) h1);
-    width-lo = leb-true 2 w (and-left (leb 2 w) (leb w 9) h2);
-    width-hi = leb-true w 9 (and-right (leb 2 w) (leb w 9) h2);
+      slots-lo = leb-true 2 n (and-left (leb 2 n) (leb n 1024 && (leb 2 w && leb w 9)) h);
+      slots-hi = leb-true n 1024 (and-left (leb n 1024) (leb 2 w && leb w 9) h1);
+      width-lo = leb-true 2 w (and-left (leb 2 w) (leb w 9) h2);
+      width-hi = leb-true w 9 (and-right (leb 2 w) (leb w 9) h2);
     }
 
 -- an image of the right shape has its sizes
@@ -106,8 +106,8 @@ shaped l h =
     let n = slotsOf l in
     let w = widthOf l in
     record {
-    sizes = sizes-true n w refl (and-left (sizesOk n w) (eqb (length l) (imageWords n w)) h);
-    long = eqb-true (length l) (imageWords n w) (and-right (sizesOk n w) (eqb (length l) (imageWords n w)) h);
+      sizes = sizes-true n w refl (and-left (sizesOk n w) (eqb (length l) (imageWords n w)) h);
+      long = eqb-true (length l) (imageWords n w) (and-right (sizesOk n w) (eqb (length l) (imageWords n w)) h);
     }
 
 pub shape-short : (l : List ℕ) → length l < 3 → false ≡ shapeOk l

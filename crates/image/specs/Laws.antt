@@ -19,8 +19,8 @@ room-of w s n h = rw mul-suc at (mul-le-mul-left w h)
 pub lanes : (w s t j : ℕ) → t ≢ s → j < w → (w * t + j < w * s) ⊎ (w * s + w ≤ w * t + j)
 lanes w s t j d h =
     elim (decLt t s) [
-    | yes u ↦ inl (omega (arith, room-of w t s u))
-    | no u ↦ inr (omega (arith, room-of w s t (omega arith)))
+      | yes u ↦ inl (omega (arith, room-of w t s u))
+      | no u ↦ inr (omega (arith, room-of w s t (omega arith)))
     ]
 
 -- ---- a word's store, at numbers
@@ -96,21 +96,21 @@ pub header-same : {l : List ℕ} {n s : ℕ} (h : Header) → HeaderFits l n s �
 unfolding setHeader header
 header-same {l} {n} {s} h z =
     let k : kindAt (setHeader l s h) s ≡ h .kind =
-      rw (get-other (set (set l (headerAt s) (h .kind)) (headerAt s + 1) (h .epoch)) (headerAt s + 2) (headerAt s) (h .uid) (omega arith), get-other (set l (headerAt s) (h .kind)) (headerAt s + 1) (headerAt s) (h .epoch) (omega arith))
-      (get-same l (headerAt s) (h .kind) (omega arith)) in
+    rw (get-other (set (set l (headerAt s) (h .kind)) (headerAt s + 1) (h .epoch)) (headerAt s + 2) (headerAt s) (h .uid) (omega arith), get-other (set l (headerAt s) (h .kind)) (headerAt s + 1) (headerAt s) (h .epoch) (omega arith))
+    (get-same l (headerAt s) (h .kind) (omega arith)) in
     let e : epochAt (setHeader l s h) s ≡ h .epoch =
-      rw (get-other (set (set l (headerAt s) (h .kind)) (headerAt s + 1) (h .epoch)) (headerAt s + 2) (headerAt s + 1) (h .uid) (omega arith))
-      (get-same (set l (headerAt s) (h .kind)) (headerAt s + 1) (h .epoch) (simp length-set (omega arith))) in
+    rw (get-other (set (set l (headerAt s) (h .kind)) (headerAt s + 1) (h .epoch)) (headerAt s + 2) (headerAt s + 1) (h .uid) (omega arith))
+    (get-same (set l (headerAt s) (h .kind)) (headerAt s + 1) (h .epoch) (simp length-set (omega arith))) in
     let u : uidAt (setHeader l s h) s ≡ h .uid =
-      get-same (set (set l (headerAt s) (h .kind)) (headerAt s + 1) (h .epoch)) (headerAt s + 2) (h .uid) (simp length-set (omega arith)) in
+    get-same (set (set l (headerAt s) (h .kind)) (headerAt s + 1) (h .epoch)) (headerAt s + 2) (h .uid) (simp length-set (omega arith)) in
     λ i. record { kind = k i; epoch = e i; uid = u i }
 
 pub header-other : (l : List ℕ) (s t : ℕ) (h : Header) → t ≢ s → header (setHeader l s h) t ≡ header l t
 unfolding header
 header-other l s t h d =
     elim (decLt t s) [
-    | yes u ↦ λ i. record { kind = setHeader-word l s h (headerAt t) (inl (omega arith)) i; epoch = setHeader-word l s h (headerAt t + 1) (inl (omega arith)) i; uid = setHeader-word l s h (headerAt t + 2) (inl (omega arith)) i }
-    | no u ↦ λ i. record { kind = setHeader-word l s h (headerAt t) (inr (omega arith)) i; epoch = setHeader-word l s h (headerAt t + 1) (inr (omega arith)) i; uid = setHeader-word l s h (headerAt t + 2) (inr (omega arith)) i }
+      | yes u ↦ λ i. record { kind = setHeader-word l s h (headerAt t) (inl (omega arith)) i; epoch = setHeader-word l s h (headerAt t + 1) (inl (omega arith)) i; uid = setHeader-word l s h (headerAt t + 2) (inl (omega arith)) i }
+      | no u ↦ λ i. record { kind = setHeader-word l s h (headerAt t) (inr (omega arith)) i; epoch = setHeader-word l s h (headerAt t + 1) (inr (omega arith)) i; uid = setHeader-word l s h (headerAt t + 2) (inr (omega arith)) i }
     ]
 
 drop-setHeader : (l : List ℕ) (s : ℕ) (h : Header) (b : ℕ) → headerAt s + 2 < b → drop b (setHeader l s h) ≡ drop b l
@@ -186,9 +186,9 @@ pub header-setContents : (l : List ℕ) (n w s t : ℕ) (line : List ℕ) → t 
 unfolding header
 header-setContents l n w s t line h =
     λ i. record {
-    kind = front-setContents l n w s (headerAt t) line (omega arith) i;
-    epoch = front-setContents l n w s (headerAt t + 1) line (omega arith) i;
-    uid = front-setContents l n w s (headerAt t + 2) line (omega arith) i;
+      kind = front-setContents l n w s (headerAt t) line (omega arith) i;
+      epoch = front-setContents l n w s (headerAt t + 1) line (omega arith) i;
+      uid = front-setContents l n w s (headerAt t + 2) line (omega arith) i;
     }
 
 -- ---- the clock's store
@@ -204,9 +204,9 @@ pub header-setClock : (l : List ℕ) (c t : ℕ) → header (setClock l c) t ≡
 unfolding header
 header-setClock l c t =
     λ i. record {
-    kind = word-setClock l c (headerAt t) (λ e. omega arith) i;
-    epoch = word-setClock l c (headerAt t + 1) (λ e. omega arith) i;
-    uid = word-setClock l c (headerAt t + 2) (λ e. omega arith) i;
+      kind = word-setClock l c (headerAt t) (λ e. omega arith) i;
+      epoch = word-setClock l c (headerAt t + 1) (λ e. omega arith) i;
+      uid = word-setClock l c (headerAt t + 2) (λ e. omega arith) i;
     }
 
 pub contents-setClock : (l : List ℕ) (n w t c : ℕ) → contents (setClock l c) n w t ≡ contents l n w t

@@ -16,7 +16,10 @@ fn word_at(bytes: &[u8], k: usize, i: usize) -> u32
     ensures { λ r. ⌜ r ≡ getD (wordsOf (now (bytes .entry))) i 0 ⌝ }
 {
     let b = 4 * i;
-    byte(bytes[b]) + 256 * byte(bytes[b + 1]) + 65536 * byte(bytes[b + 2]) + 16777216 * byte(bytes[b + 3])
+    byte(bytes[b])
+        + 256 * byte(bytes[b + 1])
+        + 65536 * byte(bytes[b + 2])
+        + 16777216 * byte(bytes[b + 3])
 }
 
 // The `k` words that the bytes make.

@@ -9,9 +9,9 @@ use Rattle.reply.specs.declared.Check.{Check}
 use Rattle.reply.specs.declared.Check.the-variants.{Accepted}
 use Rattle.image.specs.Layout.{slotsOf, widthOf, Sized, Slot}
 use Rattle.image.specs.Code.{slot}
-use Rattle.recovery.specs.Accept.{imageCheck}
-use Rattle.recovery.specs.Code.{AllMarked, headers-of}
-use Rattle.recovery.specs.Questions.{image-sized, image-long, sized-marked, decoding}
+use Rattle.acceptance.specs.Accept.{imageCheck}
+use Rattle.survival.specs.Code.{AllMarked, headers-of}
+use Rattle.acceptance.specs.Questions.{image-sized, image-long, sized-marked, decoding}
 
 pub marked-slot : {l : List ℕ} {n w s : ℕ} {flags : List Bool} → AllMarked l n w flags → s < n → Slot l n w s
 marked-slot z h = slot (z .sized) h

@@ -6,7 +6,7 @@ use reply::Refusal;
 ghost use mathlib.Core.Path.{_≡_};
 ghost use lib.ListN.{length};
 ghost use Rattle.image.specs.Layout.{Sized, Slot};
-ghost use Rattle.recovery.specs.Code.{AllMarked, SlotMarked};
+ghost use Rattle.survival.specs.Code.{AllMarked, SlotMarked};
 
 fn print_number(x: u32) {
     io::print_decimal(STDOUT_FILENO, x as u64);
@@ -67,13 +67,13 @@ fn print_survivors(img: &[u32], flags: &[bool; 1024], n: usize, w: usize)
 fn list_accepted(img: &[u32], n: usize, w: usize)
     requires { ⌜ Sized (now img) n w ⌝ }
 {
-    let flags = recovery::survivors::survivors(img, n);
-    print_head(image::shape::clock(img), recovery::survivors::count(img, &flags, n));
+    let flags = survival::survivors(img, n);
+    print_head(image::shape::clock(img), survival::count(img, &flags, n));
     print_survivors(img, &flags, n, w);
 }
 
 fn list_image(img: &[u32]) {
-    match recovery::accept::check(img) {
+    match acceptance::check(img) {
         Check::Refused(r) => print_refusal(r),
         Check::Accepted => {
             let n = image::shape::wide(img[0]);
@@ -86,7 +86,7 @@ fn list_image(img: &[u32]) {
 fn list_bytes(bytes: &[u8], words: &mut [u32])
     requires { ⌜ length (now words) ≡ 12291 ⌝ }
 {
-    if recovery::questions::bytes_ok(bytes.len()) {
+    if acceptance::questions::bytes_ok(bytes.len()) {
         let k = bytes.len() / 4;
         image::bytes::decode(bytes, words, k);
         list_image(&words[..k]);

@@ -1,348 +1,247 @@
--- What the proofs of this crate's functions cite.
-use Prim.Native.Nat.{ℕ, _+_, _*_, _-_, _≤_, _<_}
+-- What the proofs of recover's step cite.
+use Prim.Native.Nat.{ℕ, _+_, _-_, _≤_, _<_, _^_}
 use mathlib.Core.Path.{_≡_, refl, sym, ap, _∙_}
-use mathlib.Core.Bool.{Bool, true, false, not, _&&_, _||_}
+use mathlib.Core.Bool.{Bool, true, false, not, _&&_}
 use mathlib.Core.List.{List}
-use mathlib.Core.Logic.{_≢_, ⊎-elim}
-use lib.ListN.{length, getD, set, replicate, length-set, length-replicate}
-use lib.Seq.{getD-set-same, getD-set-other}
-use lib.Dec.{leb, ltb, eqb}
-use borrow.Author.Tests.{lt-ltb, le-ltb, le-leb, lt-leb, eq-eqb, ne-eqb}
-use native.Mathlib.Nat.{eq-or-lt-of-le}
+use mathlib.Core.Logic.{⊎-elim}
+use lib.ListN.{length, getD, set}
+use lib.Dec.{ltb, leb, eqb}
+use mir.Val.{Fits}
+use mir.Syntax.{w32}
+use borrow.Author.Tests.{lt-ltb, le-ltb, eq-eqb, ne-eqb, eqb-true, leb-true, not-false}
 use native.Mathlib.Omega.{arith}
-use Rattle.search.specs.Bools.{tests}
-use Rattle.search.specs.First.{Sought, loops as firsts}
-use Rattle.search.specs.Some.{some, every, loops as somes}
-use Rattle.search.specs.Count.{count, Counted, counted-hit, counted-miss, loops as counts}
+use Rattle.search.specs.Bools.{cases, and-left, and-right}
+use Rattle.search.specs.First.{firstOf, First, found-first}
+use Rattle.search.specs.Largest.{largest, raised, largest-top, loops as climbs}
+use Rattle.search.specs.declared.Found.{Found}
+use Rattle.search.specs.declared.Found.the-variants.{At, Nothing}
+use Rattle.reply.specs.declared.Check.{Check}
 use Rattle.reply.specs.declared.Check.the-variants.{Accepted, Refused}
-use Rattle.reply.specs.declared.Refusal.the-variants.{Sizes, Clock, BadSlot, Duplicate}
+use Rattle.reply.specs.declared.Refusal.{Refusal}
+use Rattle.reply.specs.declared.Refusal.the-variants.{Sizes, Clock}
+use Rattle.reply.specs.Refusals.{refuse}
 use Rattle.image.specs.declared.header.Header.{Header}
-use Rattle.image.specs.Layout.{filledKind, payloadKind, header, headerWords, clockOf, keyAt, shapeOk, clockOk, HeaderFits, Sized, Slot}
-use Rattle.image.specs.Code.{slot, shaped}
-use Rattle.recovery.specs.Survivors.{kept, beats, beaten, wins, survives, keptAnti, survivor, survivorCount}
-use Rattle.recovery.specs.Accept.{blankHeader, filledHeader, proper, allProper, nameless, someNameless, sameVersion, versionBelow, versionTwice, survivesAs, keyBelow, keyTwice, headCheck, slotsCheck}
+use Rattle.image.specs.Layout.{filledKind, header, slotsOf, widthOf, clockOf, shapeOk, clockOk, stored, setHeader, freeHeader, HeaderFits, Sized}
+use Rattle.image.specs.Laws.{stored-whole}
+use Rattle.image.specs.Code.{shaped}
+use Rattle.transient.specs.Store.{Store, store}
+use Rattle.transient.specs.Layout.{threadsOf, threadsOk, blank}
+use Rattle.survival.specs.Survivors.{survivor, keptAnti}
+use Rattle.acceptance.specs.Accept.{headCheck, slotsCheck, proper}
+use Rattle.acceptance.specs.Sound.{Sound, sound, not-refused, uid-top}
+use Rattle.recovery.specs.Recover.{antiAt, stale, orElse, nextFreed, uidOf, nextUid, lengthsFit, entryCheck, recoverCheck, Recovered, recovered, finished, freeing, judged, recover}
+use Rattle.survival.specs.Code.{Headers, HeaderOf, Marked, AllMarked, flag-is, headers-of, header-in}
+use Rattle.recovery.specs.declared.Recovery.{Recovery}
+use Rattle.recovery.specs.declared.Recovery.the-variants.{WentOn, Done, Declined}
 
--- an image's headers
-pub record Headers (l : List ℕ) (n : ℕ) : Type 0 where
-  pub slots-hi : n ≤ 1024
-  pub long : 3 + headerWords * n ≤ length l
-
-pub record HeaderOf (l : List ℕ) (n s : ℕ) : Type 0 where
-  pub headers : Headers l n
+pub record FlagAt (l : List ℕ) (n s : ℕ) (flags : List Bool) : Type 0 where
+  pub marked : Marked l n flags
   pub within : s < n
 
-pub header-in : {l : List ℕ} {n s : ℕ} → Headers l n → s < n → HeaderFits l n s
-header-in z h = record { within = h; slots-hi = z .slots-hi; long = z .long }
+pub flag-at : {l : List ℕ} {n s : ℕ} {flags : List Bool} → Marked l n flags → s < n → FlagAt l n s flags
+flag-at z h = record { marked = z; within = h }
 
-pub header-of : {l : List ℕ} {n s : ℕ} → Headers l n → s < n → HeaderOf l n s
-header-of z h = record { headers = z; within = h }
+pub flag-header : {l : List ℕ} {n s : ℕ} {flags : List Bool} → FlagAt l n s flags → HeaderFits l n s
+flag-header z = header-in (z .marked .headers) (z .within)
 
--- ---- kept, beats, beaten, survives: the ways out
-module _ (c : ℕ) (h : Header) {f : Bool} (fl : f ≡ filledKind (h .kind)) where
-  pub kept-yes : {e d : ℕ} → f ≡ true → e ≡ h .epoch → d ≡ c → leb (e + 2) d ≡ kept c h
-  unfolding kept
-  kept-yes t p q = rw (← fl, t, p, q)
+pub flag-of : {l : List ℕ} {n s : ℕ} {flags : List Bool} → FlagAt l n s flags → HeaderOf l n s
+flag-of z = record { headers = z .marked .headers; within = z .within }
 
-  pub kept-no : f ≡ false → false ≡ kept c h
-  unfolding kept
-  kept-no t = rw (← fl, t)
+-- ---- what is freed next
+pub anti-is : (l : List ℕ) (s : ℕ) {c : ℕ} {r : Bool} → c ≡ clockOf l → r ≡ keptAnti c (header l s) → r ≡ antiAt l s
+unfolding antiAt
+anti-is l s e h = rw (← e) h
 
-module _ (c : ℕ) (h : Header) (l : List ℕ) (t : ℕ) {g : Header} {k : Bool} (at : g ≡ header l t) (kp : k ≡ kept c g) where
-  pub beats-yes : k ≡ true → g .uid ≡ h .uid → ltb (h .epoch) (g .epoch) ≡ beats c h (header l t)
-  unfolding beats
-  beats-yes e u = rw (← at, ← kp, e, eq-eqb (g .uid) (h .uid) u)
+module _ (l : List ℕ) (n s : ℕ) (flags : List Bool) {h : Header} {f : Bool} (z : FlagAt l n s flags) (at : h ≡ header l s) (fl : f ≡ filledKind (h .kind)) where
+  pub stale-free : f ≡ false → false ≡ stale l n s
+  unfolding stale
+  stale-free e = rw (← at, ← fl, e)
 
-  pub beats-uid : k ≡ true → (g .uid ≡ h .uid → ⊥) → false ≡ beats c h (header l t)
-  unfolding beats
-  beats-uid e u = rw (← at, ← kp, e, ne-eqb (g .uid) (h .uid) u)
+  pub stale-survives : f ≡ true → getD flags s false ≡ true → false ≡ stale l n s
+  unfolding stale
+  stale-survives e t = rw (← at, ← fl, e, flag-is (z .marked .flagged) (z .within) t)
 
-  pub beats-no : k ≡ false → false ≡ beats c h (header l t)
-  unfolding beats
-  beats-no e = rw (← at, ← kp, e)
+  pub stale-anti : {a : Bool} → f ≡ true → getD flags s false ≡ false → a ≡ antiAt l s → a ≡ true → false ≡ stale l n s
+  unfolding stale
+  stale-anti e t k y = rw (← at, ← fl, e, flag-is (z .marked .flagged) (z .within) t, ← k, y)
 
-  pub anti-yes : k ≡ true → eqb (g .kind) 3 ≡ keptAnti c (header l t)
-  unfolding keptAnti
-  anti-yes e = rw (← at, ← kp, e)
+  pub stale-yes : {a : Bool} → f ≡ true → getD flags s false ≡ false → a ≡ antiAt l s → a ≡ false → true ≡ stale l n s
+  unfolding stale
+  stale-yes e t k y = rw (← at, ← fl, e, flag-is (z .marked .flagged) (z .within) t, ← k, y)
 
-  pub anti-no : k ≡ false → false ≡ keptAnti c (header l t)
-  unfolding keptAnti
-  anti-no e = rw (← at, ← kp, e)
+module _ (l : List ℕ) (n : ℕ) {f : Found} (st : f ≡ firstOf (stale l n) n) where
+  pub freed-stale : {s : ℕ} → f ≡ At s → At s ≡ nextFreed l n
+  unfolding nextFreed
+  freed-stale e = rw (← st, e)
 
-pub beaten-is : (c : ℕ) (hs : ℕ → Header) (n : ℕ) (h : Header) {r : Bool} → r ≡ some (λ t. beats c h (hs t)) n → r ≡ beaten c hs n h
-unfolding beaten
-beaten-is c hs n h e = e
+  pub freed-anti : {g : Found} → f ≡ Nothing → g ≡ firstOf (antiAt l) n → g ≡ nextFreed l n
+  unfolding nextFreed
+  freed-anti e h = rw (← st, e) h
 
-module _ (c : ℕ) (l : List ℕ) (n s : ℕ) {h : Header} {p : Bool} (at : h ≡ header l s) (pl : p ≡ payloadKind (h .kind)) where
-  pub survives-kind : p ≡ false → false ≡ survives c (header l) n s
-  unfolding survives
-  survives-kind e = rw (← at, ← pl, e)
+pub freed-below : (l : List ℕ) (n s : ℕ) → nextFreed l n ≡ At s → s < n
+unfolding nextFreed
+freed-below l n s e = go (firstOf (stale l n) n) refl
+  where
+    go : (f : Found) → firstOf (stale l n) n ≡ f → s < n
+    go (At t) q = let z : At t ≡ At s = rw q at e in let y : t ≡ s = cc in let h : t < n = found-first (stale l n) n q .below in omega arith
+    go Nothing q = let z : firstOf (antiAt l) n ≡ At s = rw q at e in found-first (antiAt l) n z .below
 
-  module _ {k : Bool} (pt : p ≡ true) (kp : k ≡ kept c h) where
-    pub survives-new : k ≡ false → false ≡ survives c (header l) n s
-    unfolding survives wins
-    survives-new e = rw (← at, ← pl, pt, ← kp, e)
+-- ---- the next uid
+module _ (l : List ℕ) (n s b : ℕ) (flags : List Bool) (z : FlagAt l n s flags) where
+  pub raise-miss : getD flags s false ≡ false → b ≡ raised (survivor l n) (uidOf l) s b
+  unfolding raised
+  raise-miss t = rw (flag-is (z .marked .flagged) (z .within) t)
 
-    module _ {b : Bool} (kt : k ≡ true) (bt : b ≡ beaten c (header l) n h) where
-      pub survives-beaten : b ≡ true → false ≡ survives c (header l) n s
-      unfolding survives wins
-      survives-beaten e = rw (← at, ← pl, pt, ← kp, kt, ← bt, e)
+  module _ {h : Header} (t : getD flags s false ≡ true) (at : h ≡ header l s) where
+    pub raise-up : b < h .uid → h .uid ≡ raised (survivor l n) (uidOf l) s b
+    unfolding raised
+    raise-up u =
+        let e : uidOf l s ≡ h .uid = ap (λ (x : Header). x .uid) (sym at) in
+        rw (flag-is (z .marked .flagged) (z .within) t, e, lt-ltb b (h .uid) u)
 
-      pub survives-yes : b ≡ false → true ≡ survives c (header l) n s
-      unfolding survives wins
-      survives-yes e = rw (← at, ← pl, pt, ← kp, kt, ← bt, e)
+    pub raise-level : h .uid ≤ b → b ≡ raised (survivor l n) (uidOf l) s b
+    unfolding raised
+    raise-level u =
+        let e : uidOf l s ≡ h .uid = ap (λ (x : Header). x .uid) (sym at) in
+        rw (flag-is (z .marked .flagged) (z .within) t, e, le-ltb b (h .uid) u)
 
--- ---- flags: slot s's flag says whether it passes
-pub record Flagged (flags : List Bool) (p : ℕ → Bool) (n : ℕ) : Type 0 where
-  pub long : length flags ≡ 1024
-  pub same : (s : ℕ) → s < n → getD flags s false ≡ p s
+pub record Uids (l : List ℕ) (n : ℕ) (flags : List Bool) : Type 0 where
+  pub marked : Marked l n flags
+  pub uids : (s : ℕ) → s < n → uidOf l s ≤ 4000000000
 
--- a loop has set i of n flags
-pub record Flagging (p : ℕ → Bool) (n i : ℕ) (flags : List Bool) : Type 0 where
-  pub low : i ≤ n
-  pub so-far : Flagged flags p i
+pub uid-fits : (l : List ℕ) (n : ℕ) (flags : List Bool) {b : ℕ} → Uids l n flags → b ≡ largest (survivor l n) (uidOf l) n → Fits w32 (b + 1)
+uid-fits l n flags z e = omega (arith, largest-top (survivor l n) (uidOf l) 4000000000 n (z .uids), e)
 
-pub flagging-start : (p : ℕ → Bool) (n : ℕ) → Flagging p n 0 (replicate 1024 false)
-flagging-start p n =
-    record { low = omega arith; so-far = record { long = length-replicate 1024 false; same = λ s h. absurd (omega arith) } }
+pub uid-is : (l : List ℕ) (n : ℕ) {b : ℕ} → b ≡ largest (survivor l n) (uidOf l) n → b + 1 ≡ nextUid l n
+unfolding nextUid
+uid-is l n e = rw e
 
-pub flagging-next : {p : ℕ → Bool} {n i : ℕ} {flags : List Bool} {r : Bool} → Flagging p n i flags → n ≤ 1024 → i < n → r ≡ p i → Flagging p n (i + 1) (set flags i r)
-flagging-next {p} {n} {i} {flags} {r} z m h e =
+-- ---- the last call
+pub record Finishing (wk l t : List ℕ) (flags : List Bool) (n : ℕ) : Type 0 where
+  pub uids : Uids l n flags
+  pub some : 1 ≤ n
+  pub same : length wk ≡ length l
+  pub notes : 2 ≤ length t
+
+pub finish-marked : {wk l t : List ℕ} {flags : List Bool} {n : ℕ} → Finishing wk l t flags n → Marked l n flags
+finish-marked z = z .uids .marked
+
+pub finish-header : (wk l t : List ℕ) (flags : List Bool) {n s : ℕ} {f : Found} → Finishing wk l t flags n → f ≡ nextFreed l n → f ≡ At s → HeaderFits l n s
+finish-header wk l t flags {n} {s} z e a = header-in (z .uids .marked .headers) (freed-below l n s (sym e ∙ a))
+
+pub finish-slots : {wk l t : List ℕ} {flags : List Bool} {n : ℕ} → Finishing wk l t flags n → n - 1 < 2 ^ 32
+finish-slots z = let h = z .uids .marked .headers .slots-hi in omega arith
+
+pub finish-done : (wk l t : List ℕ) (n : ℕ) {u m : ℕ} {wk′ t′ : List ℕ} → length wk ≡ length l → u ≡ nextUid l n → wk′ ≡ stored wk 0 l (length l) → m ≡ n - 1
+    → t′ ≡ blank (length t) m u → store wk′ l t′ ≡ finished l (length t) n
+unfolding finished
+finish-done wk l t n long e w m b =
+    let copy : stored wk 0 l (length l) ≡ l = ap (stored wk 0 l) (sym long) ∙ stored-whole wk l (sym long) in
+    rw (w, copy, b, e, m)
+
+module _ (wk l t : List ℕ) (n : ℕ) {f : Found} (fr : f ≡ nextFreed l n) where
+  pub free-on : {s : ℕ} {h : Header} {l′ : List ℕ} → f ≡ At s → h ≡ freeHeader → l′ ≡ setHeader l s h → recovered WentOn wk l′ t ≡ freeing (nextFreed l n) (store wk l t) n
+  free-on e q p = rw (← fr, e, p, q)
+
+  pub free-done : {wk′ t′ : List ℕ} → f ≡ Nothing → store wk′ l t′ ≡ finished l (length t) n → recovered Done wk′ l t′ ≡ freeing (nextFreed l n) (store wk l t) n
+  free-done {wk′} {t′} e p = rw (← fr, e) (ap (λ st. record { reply = Done; store = st }) p)
+
+-- ---- refusals 1 and 2
+sizes-both : (b : Bool) → Refused Sizes ≡ refuse b Sizes (Refused Sizes)
+sizes-both true = refl
+sizes-both false = refl
+
+module _ (wl : ℕ) (l : List ℕ) (tl : ℕ) {s : Bool} (sh : s ≡ shapeOk l) where
+  pub entry-shape : s ≡ false → Refused Sizes ≡ entryCheck wl l tl
+  unfolding entryCheck headCheck
+  entry-shape e = rw (← sh, e) (sizes-both (not (lengthsFit wl l tl)))
+
+  pub entry-working : s ≡ true → (wl ≡ length l → ⊥) → Refused Sizes ≡ entryCheck wl l tl
+  unfolding entryCheck lengthsFit
+  entry-working t d = rw (ne-eqb wl (length l) d)
+
+  module _ {n : ℕ} {k : Bool} (long : wl ≡ length l) (at : n ≡ slotsOf l) (th : k ≡ threadsOk tl n) where
+    pub entry-threads : k ≡ false → Refused Sizes ≡ entryCheck wl l tl
+    unfolding entryCheck lengthsFit
+    entry-threads e = rw (eq-eqb wl (length l) long, ← at, ← th, e)
+
+    pub entry-head : {r : Check} → k ≡ true → r ≡ headCheck l → r ≡ entryCheck wl l tl
+    unfolding entryCheck lengthsFit
+    entry-head e h = rw (eq-eqb wl (length l) long, ← at, ← th, e) h
+
+pub entry-first : (l : List ℕ) {s : Bool} → s ≡ shapeOk l → s ≡ true → 0 < length l
+entry-first l e t = let z = shaped l (sym e ∙ t) in omega arith
+
+pub entry-slots : (l : List ℕ) {s : Bool} {n : ℕ} → s ≡ shapeOk l → s ≡ true → n ≡ slotsOf l → n ≤ 1024
+entry-slots l e t q = let z = shaped l (sym e ∙ t) in omega arith
+
+-- ---- past refusals 1 and 2
+pub record Entered (wk l t : List ℕ) (n w : ℕ) : Type 0 where
+  pub sized : Sized l n w
+  pub same : length wk ≡ length l
+  pub notes : 2 ≤ length t
+
+entry-passed : (wk l t : List ℕ) {k : Check} → k ≡ entryCheck (length wk) l (length t) → k ≡ Accepted → Entered wk l t (slotsOf l) (widthOf l)
+unfolding entryCheck headCheck lengthsFit threadsOk
+entry-passed wk l t e a =
+    let same = eqb (length wk) (length l) in
+    let some = leb 1 (threadsOf (length t) (slotsOf l)) in
+    let few = leb (threadsOf (length t) (slotsOf l)) 16 in
+    let one = not-refused (not (same && (some && few))) Sizes (headCheck l) (sym e ∙ a) in
+    let fit : same && (some && few) ≡ true = not-false (same && (some && few)) (one .0) in
+    let two = not-refused (not (shapeOk l)) Sizes (refuse (not (clockOk (clockOf l))) Clock Accepted) (one .1) in
+    let threads : 1 ≤ threadsOf (length t) (slotsOf l) = leb-true _ _ (and-left some few (and-right same (some && few) fit)) in
     record {
-    low = omega arith;
-    so-far = record {
-      long = length-set flags i r ∙ z .so-far .long;
-      same = λ s l.
-        ⊎-elim
-        (λ (q : s ≡ i). rw q (getD-set-same flags i r false (omega (arith, z .so-far .long)) ∙ e))
-        (λ (u : s < i). getD-set-other flags i s r false (λ q. omega arith) ∙ z .so-far .same s u)
-        (eq-or-lt-of-le (omega arith));
-    };
+      sized = shaped l (not-false (shapeOk l) (two .0));
+      same = eqb-true (length wk) (length l) (and-left same (some && few) fit);
+      notes = omega arith;
     }
 
-pub flagging-end : {p : ℕ → Bool} {n i : ℕ} {flags : List Bool} → Flagging p n i flags → n ≤ i → Flagged flags p n
-flagging-end {p} {n} {i} z h =
-    let e : i ≡ n = omega arith in
-    rw e at (z .so-far)
+pub entered : (wk l t : List ℕ) {k : Check} {n w : ℕ} → k ≡ entryCheck (length wk) l (length t) → k ≡ Accepted → n ≡ slotsOf l → w ≡ widthOf l → Entered wk l t n w
+entered wk l t e a p q = rw (p, q) (entry-passed wk l t e a)
 
--- ---- an image beside its survivors' flags
-pub record Marked (l : List ℕ) (n : ℕ) (flags : List Bool) : Type 0 where
-  pub headers : Headers l n
-  pub flagged : Flagged flags (survivor l n) n
+pub entered-long : (wk l t : List ℕ) (j : ℕ) {k : Check} → k ≡ entryCheck (length wk) l (length t) → k ≡ Accepted → j < 3 → j < length l
+entered-long wk l t j e a h = let z = entry-passed wk l t e a .sized in omega arith
 
-pub marked-end : {l : List ℕ} {c n i : ℕ} {flags : List Bool} → Headers l n → c ≡ clockOf l → Flagging (survives c (header l) n) n i flags → n ≤ i → Marked l n flags
-unfolding survivor
-marked-end {l} {c} {n} z e f h =
-    let g = flagging-end f h in
-    record { headers = z; flagged = record { long = g .long; same = λ s k. g .same s k ∙ ap (λ d. survives d (header l) n s) e } }
+unfoldable pub stepped : Store → ℕ → ℕ → Recovered
+stepped st n w = judged (slotsCheck (st .persistent) n w) st n
 
-pub record AllMarked (l : List ℕ) (n w : ℕ) (flags : List Bool) : Type 0 where
-  pub sized : Sized l n w
-  pub flagged : Flagged flags (survivor l n) n
+pub entered-headers : {wk l t : List ℕ} {n w : ℕ} → Entered wk l t n w → Headers l n
+entered-headers z = headers-of (z .sized)
 
-pub record SlotMarked (l : List ℕ) (n w s : ℕ) (flags : List Bool) : Type 0 where
-  pub slot : Slot l n w s
-  pub flagged : Flagged flags (survivor l n) n
+pub entered-marked : {wk l t : List ℕ} {flags : List Bool} {n w : ℕ} → Entered wk l t n w → Marked l n flags → AllMarked l n w flags
+entered-marked z m = record { sized = z .sized; flagged = m .flagged }
 
--- the slots below s
-pub record Below (l : List ℕ) (n s : ℕ) : Type 0 where
-  pub headers : Headers l n
-  pub within : s < n
+pub entered-finishing : {wk l t : List ℕ} {flags : List Bool} {n w : ℕ} {k : Check} → Entered wk l t n w → Marked l n flags
+    → k ≡ slotsCheck l n w → k ≡ Accepted → Finishing wk l t flags n
+entered-finishing {wk} {l} {t} {flags} {n} {w} z m c a =
+    let s : Sound l n w = sound l n w (sym c ∙ a) in
+    record {
+      uids = record {
+        marked = m;
+        uids = λ i h. uid-top (clockOf l) (header l i) (s .all-proper i h);
+      };
+      some = omega (arith, z .sized .sizes .slots-lo);
+      same = z .same;
+      notes = z .notes;
+    }
 
-pub record BelowMarked (l : List ℕ) (n w s : ℕ) (flags : List Bool) : Type 0 where
-  pub within : s < n
-  pub marked : AllMarked l n w flags
+module _ (wk l t : List ℕ) (n w : ℕ) {k : Check} (c : k ≡ slotsCheck l n w) where
+  pub step-declines : {r : Refusal} → k ≡ Refused r → recovered (Declined r) wk l t ≡ stepped (store wk l t) n w
+  unfolding stepped
+  step-declines a = rw (← c, a)
 
-pub headers-of : {l : List ℕ} {n w : ℕ} → Sized l n w → Headers l n
-headers-of z = record { slots-hi = z .sizes .slots-hi; long = omega arith }
+  pub step-goes : {r : Recovered} → k ≡ Accepted → r ≡ freeing (nextFreed l n) (store wk l t) n → r ≡ stepped (store wk l t) n w
+  unfolding stepped
+  step-goes a h = rw (← c, a) h
 
-pub all-headers : {l : List ℕ} {n w : ℕ} {flags : List Bool} → AllMarked l n w flags → Headers l n
-all-headers z = headers-of (z .sized)
+module _ (wk l t : List ℕ) {k : Check} (c : k ≡ entryCheck (length wk) l (length t)) where
+  pub recover-declines : {r : Refusal} → k ≡ Refused r → recovered (Declined r) wk l t ≡ recover (store wk l t)
+  unfolding recover recoverCheck
+  recover-declines a = rw (← c, a)
 
-pub slot-marked : {l : List ℕ} {n w s : ℕ} {flags : List Bool} → AllMarked l n w flags → s < n → SlotMarked l n w s flags
-slot-marked z h = record { slot = slot (z .sized) h; flagged = z .flagged }
+  pub recover-goes : (n w : ℕ) {r : Recovered} → k ≡ Accepted → n ≡ slotsOf l → w ≡ widthOf l → r ≡ stepped (store wk l t) n w → r ≡ recover (store wk l t)
+  unfolding recover recoverCheck stepped
+  recover-goes n w a p q h = rw (← c, a, ← p, ← q) h
 
-pub slot-below : {l : List ℕ} {n w s t : ℕ} {flags : List Bool} → BelowMarked l n w s flags → t < s → SlotMarked l n w t flags
-slot-below z h = slot-marked (z .marked) (omega arith)
-
-pub header-below : {l : List ℕ} {n s t : ℕ} → Below l n s → t < s → HeaderFits l n t
-header-below z h = header-in (z .headers) (omega arith)
-
-pub below-of : {l : List ℕ} {n s : ℕ} → HeaderOf l n s → Below l n s
-below-of z = record { headers = z .headers; within = z .within }
-
-pub below-marked : {l : List ℕ} {n w s : ℕ} {flags : List Bool} → SlotMarked l n w s flags → BelowMarked l n w s flags
-below-marked z = record { within = z .slot .within; marked = record { sized = z .slot .sized; flagged = z .flagged } }
-
--- a flag read
-pub flag-is : {flags : List Bool} {p : ℕ → Bool} {n s : ℕ} {b : Bool} → Flagged flags p n → s < n → getD flags s false ≡ b → p s ≡ b
-flag-is z h e = sym (z .same _ h) ∙ e
-
--- ---- headers that are proper
-module _ (h : Header) where
-  pub blank-kind : (h .kind ≡ 0 → ⊥) → false ≡ blankHeader h
-  unfolding blankHeader
-  blank-kind a = rw (ne-eqb (h .kind) 0 a)
-
-  pub blank-epoch : h .kind ≡ 0 → (h .epoch ≡ 0 → ⊥) → false ≡ blankHeader h
-  unfolding blankHeader
-  blank-epoch a b = rw (eq-eqb (h .kind) 0 a, ne-eqb (h .epoch) 0 b)
-
-  pub blank-uid : h .kind ≡ 0 → h .epoch ≡ 0 → eqb (h .uid) 0 ≡ blankHeader h
-  unfolding blankHeader
-  blank-uid a b = rw (eq-eqb (h .kind) 0 a, eq-eqb (h .epoch) 0 b)
-
-module _ (c : ℕ) (h : Header) {f : Bool} (fl : f ≡ filledKind (h .kind)) where
-  pub filled-no : f ≡ false → false ≡ filledHeader c h
-  unfolding filledHeader
-  filled-no t = rw (← fl, t)
-
-  pub filled-early : f ≡ true → h .epoch < 2 → false ≡ filledHeader c h
-  unfolding filledHeader
-  filled-early t a = rw (← fl, t, lt-leb 2 (h .epoch) a)
-
-  module _ (ft : f ≡ true) (a : 2 ≤ h .epoch) where
-    pub filled-late : c < h .epoch → false ≡ filledHeader c h
-    unfolding filledHeader
-    filled-late b = rw (← fl, ft, le-leb 2 (h .epoch) a, lt-leb (h .epoch) c b)
-
-    pub filled-zero : h .epoch ≤ c → h .uid < 1 → false ≡ filledHeader c h
-    unfolding filledHeader
-    filled-zero b d = rw (← fl, ft, le-leb 2 (h .epoch) a, le-leb (h .epoch) c b, lt-leb 1 (h .uid) d)
-
-    pub filled-uid : h .epoch ≤ c → 1 ≤ h .uid → leb (h .uid) 4000000000 ≡ filledHeader c h
-    unfolding filledHeader
-    filled-uid b d = rw (← fl, ft, le-leb 2 (h .epoch) a, le-leb (h .epoch) c b, le-leb 1 (h .uid) d)
-
-module _ (c : ℕ) (l : List ℕ) (s : ℕ) {h : Header} {b : Bool} (at : h ≡ header l s) (bl : b ≡ blankHeader h) where
-  pub proper-blank : b ≡ true → true ≡ proper c (header l s)
-  unfolding proper
-  proper-blank t = rw (← at, ← bl, t)
-
-  pub proper-filled : {r : Bool} → b ≡ false → r ≡ filledHeader c h → r ≡ proper c (header l s)
-  unfolding proper
-  proper-filled t e = rw (← at, ← bl, t) e
-
-pub all-proper : (l : List ℕ) (n : ℕ) {c : ℕ} {r : Bool} → c ≡ clockOf l → r ≡ every (λ s. proper c (header l s)) n → r ≡ allProper l n
-unfolding allProper
-all-proper l n e h = rw (← e) h
-
--- ---- survivors by key
-module _ (l : List ℕ) (n w s : ℕ) (flags : List Bool) (z : SlotMarked l n w s flags) where
-  pub nameless-yes : {k : ℕ} → getD flags s false ≡ true → k ≡ keyAt l n w s → eqb k 0 ≡ nameless l n w s
-  unfolding nameless
-  nameless-yes t e = rw (flag-is (z .flagged) (z .slot .within) t, e)
-
-  pub nameless-no : getD flags s false ≡ false → false ≡ nameless l n w s
-  unfolding nameless
-  nameless-no t = rw (flag-is (z .flagged) (z .slot .within) t)
-
-  pub as-yes : (key : ℕ) {k : ℕ} → getD flags s false ≡ true → k ≡ keyAt l n w s → eqb k key ≡ survivesAs l n w key s
-  unfolding survivesAs
-  as-yes key t e = rw (flag-is (z .flagged) (z .slot .within) t, e)
-
-  pub as-no : (key : ℕ) → getD flags s false ≡ false → false ≡ survivesAs l n w key s
-  unfolding survivesAs
-  as-no key t = rw (flag-is (z .flagged) (z .slot .within) t)
-
-  pub key-yes : {k : ℕ} {r : Bool} → getD flags s false ≡ true → k ≡ keyAt l n w s → r ≡ some (survivesAs l n w k) s → r ≡ keyBelow l n w s
-  unfolding keyBelow
-  key-yes t e h = rw (flag-is (z .flagged) (z .slot .within) t, ← e) h
-
-  pub key-no : getD flags s false ≡ false → false ≡ keyBelow l n w s
-  unfolding keyBelow
-  key-no t = rw (flag-is (z .flagged) (z .slot .within) t)
-
-pub some-nameless : (l : List ℕ) (n w : ℕ) {r : Bool} → r ≡ some (nameless l n w) n → r ≡ someNameless l n w
-unfolding someNameless
-some-nameless l n w e = e
-
-pub key-twice : (l : List ℕ) (n w : ℕ) {r : Bool} → r ≡ some (keyBelow l n w) n → r ≡ keyTwice l n w
-unfolding keyTwice
-key-twice l n w e = e
-
--- ---- versions
-module _ (c : ℕ) (h : Header) (l : List ℕ) (t : ℕ) {g : Header} {k : Bool} (at : g ≡ header l t) (kp : k ≡ kept c g) where
-  pub version-yes : k ≡ true → g .uid ≡ h .uid → eqb (g .epoch) (h .epoch) ≡ sameVersion c h (header l t)
-  unfolding sameVersion
-  version-yes e u = rw (← at, ← kp, e, eq-eqb (g .uid) (h .uid) u)
-
-  pub version-uid : k ≡ true → (g .uid ≡ h .uid → ⊥) → false ≡ sameVersion c h (header l t)
-  unfolding sameVersion
-  version-uid e u = rw (← at, ← kp, e, ne-eqb (g .uid) (h .uid) u)
-
-  pub version-no : k ≡ false → false ≡ sameVersion c h (header l t)
-  unfolding sameVersion
-  version-no e = rw (← at, ← kp, e)
-
-module _ (c : ℕ) (l : List ℕ) (s : ℕ) {h : Header} {k : Bool} (at : h ≡ header l s) (kp : k ≡ kept c h) where
-  pub below-yes : {r : Bool} → k ≡ true → r ≡ some (λ t. sameVersion c h (header l t)) s → r ≡ versionBelow c (header l) s
-  unfolding versionBelow
-  below-yes e p = rw (← at, ← kp, e) p
-
-  pub below-no : k ≡ false → false ≡ versionBelow c (header l) s
-  unfolding versionBelow
-  below-no e = rw (← at, ← kp, e)
-
-pub version-twice : (l : List ℕ) (n : ℕ) {c : ℕ} {r : Bool} → c ≡ clockOf l → r ≡ some (versionBelow c (header l)) n → r ≡ versionTwice l n
-unfolding versionTwice
-version-twice l n e h = rw (← e) h
-
--- ---- the checks
-module _ (l : List ℕ) {s : Bool} (sh : s ≡ shapeOk l) where
-  pub head-shape : s ≡ false → Refused Sizes ≡ headCheck l
-  unfolding headCheck
-  head-shape e = rw (← sh, e)
-
-  module _ {c : ℕ} {k : Bool} (st : s ≡ true) (at : c ≡ clockOf l) (ck : k ≡ clockOk c) where
-    pub head-clock : k ≡ false → Refused Clock ≡ headCheck l
-    unfolding headCheck
-    head-clock e = rw (← sh, st, ← at, ← ck, e)
-
-    pub head-fine : k ≡ true → Accepted ≡ headCheck l
-    unfolding headCheck
-    head-fine e = rw (← sh, st, ← at, ← ck, e)
-
-pub shape-room : (l : List ℕ) {s : Bool} → s ≡ shapeOk l → s ≡ true → 3 ≤ length l
-shape-room l e t = let z = shaped l (sym e ∙ t) in omega arith
-
-module _ (l : List ℕ) (n w : ℕ) {p : Bool} (pr : p ≡ allProper l n) where
-  pub slots-improper : p ≡ false → Refused BadSlot ≡ slotsCheck l n w
-  unfolding slotsCheck
-  slots-improper e = rw (← pr, e)
-
-  module _ {k : Bool} (pt : p ≡ true) (nm : k ≡ someNameless l n w) where
-    pub slots-nameless : k ≡ true → Refused BadSlot ≡ slotsCheck l n w
-    unfolding slotsCheck
-    slots-nameless e = rw (← pr, pt, ← nm, e)
-
-    module _ {v : Bool} (kf : k ≡ false) (vt : v ≡ versionTwice l n) where
-      pub slots-version : v ≡ true → Refused Duplicate ≡ slotsCheck l n w
-      unfolding slotsCheck
-      slots-version e = rw (← pr, pt, ← nm, kf, ← vt, e)
-
-      module _ {y : Bool} (vf : v ≡ false) (yt : y ≡ keyTwice l n w) where
-        pub slots-key : y ≡ true → Refused Duplicate ≡ slotsCheck l n w
-        unfolding slotsCheck
-        slots-key e = rw (← pr, pt, ← nm, kf, ← vt, vf, ← yt, e)
-
-        pub slots-fine : y ≡ false → Accepted ≡ slotsCheck l n w
-        unfolding slotsCheck
-        slots-fine e = rw (← pr, pt, ← nm, kf, ← vt, vf, ← yt, e)
-
--- ---- the count
-module _ (l : List ℕ) (flags : List Bool) {n s k k′ : ℕ} (m : Marked l n flags) (z : Counted (survivor l n) n s k) (h : s < n) where
-  pub flag-hit : getD flags s false ≡ true → k′ ≡ k + 1 → Counted (survivor l n) n (s + 1) k′
-  flag-hit t e = counted-hit z h refl (flag-is (m .flagged) h t) e
-
-  pub flag-miss : getD flags s false ≡ false → k′ ≡ k → Counted (survivor l n) n (s + 1) k′
-  flag-miss t e = counted-miss z h refl (flag-is (m .flagged) h t) e
-
-pub count-is : (l : List ℕ) (n : ℕ) {r : ℕ} → r ≡ count (survivor l n) n → r ≡ survivorCount l n
-unfolding survivorCount
-count-is l n e = e
-
-pub ruleset laws = (tests, firsts, somes, header-in, header-of, kept-yes, kept-no, beats-yes, beats-uid, beats-no, anti-yes, anti-no, beaten-is, survives-kind, survives-new, survives-beaten, survives-yes, flagging-start, flagging-next, marked-end)
-
-pub ruleset marks = (counts, headers-of, all-headers, slot-marked, slot-below, header-below, below-of, below-marked, flag-hit, flag-miss, count-is)
-
-pub ruleset checks = (blank-kind, blank-epoch, blank-uid, filled-no, filled-early, filled-late, filled-zero, filled-uid, proper-blank, proper-filled, all-proper, nameless-yes, nameless-no, as-yes, as-no, key-yes, key-no, some-nameless, key-twice, version-yes, version-uid, version-no, below-yes, below-no, version-twice, head-shape, head-clock, head-fine, shape-room, slots-improper, slots-nameless, slots-version, slots-key, slots-fine)
+pub ruleset steps = (climbs, flag-at, flag-header, flag-of, anti-is, stale-free, stale-survives, stale-anti, stale-yes, freed-stale, freed-anti, raise-miss, raise-up, raise-level, uid-fits, uid-is, finish-marked, finish-header, finish-slots, finish-done, free-on, free-done, entry-shape, entry-working, entry-threads, entry-head, entry-first, entry-slots, entered, entered-long, entered-marked, entered-headers, entered-finishing, step-declines, step-goes, recover-declines, recover-goes)

@@ -1,7 +1,5 @@
-pub mod Survivors
-pub mod Accept
 pub mod Recover
-pub mod Sound
 pub mod Code
-pub mod Stepping
-pub mod Questions
+pub mod Freed
+pub mod Steps
+pub mod Completes

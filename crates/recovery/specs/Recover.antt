@@ -15,10 +15,10 @@ use Rattle.reply.specs.Refusals.{refuse, andThen, declinedNumber}
 use Rattle.image.specs.Layout.{filledKind, header, slotsOf, widthOf, clockOf, setHeader, freeHeader}
 use Rattle.transient.specs.Store.{Store, store}
 use Rattle.transient.specs.Layout.{threadsOk, blank}
-use Rattle.recovery.specs.Survivors.{survivor, keptAnti}
-use Rattle.recovery.specs.Accept.{headCheck, slotsCheck}
-use Rattle.recovery.specs.declared.step.Recovery.{Recovery}
-use Rattle.recovery.specs.declared.step.Recovery.the-variants.{WentOn, Done, Declined}
+use Rattle.survival.specs.Survivors.{survivor, keptAnti}
+use Rattle.acceptance.specs.Accept.{headCheck, slotsCheck}
+use Rattle.recovery.specs.declared.Recovery.{Recovery}
+use Rattle.recovery.specs.declared.Recovery.the-variants.{WentOn, Done, Declined}
 
 unfoldable pub antiAt : List ℕ → ℕ → Bool
 antiAt l s = keptAnti (clockOf l) (header l s)

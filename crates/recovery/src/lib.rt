@@ -1,5 +1,194 @@
-// Recovery: which slots survive a crash, what is refused, one step of recover, and the questions that an image answers.
-pub mod accept;
-pub mod questions;
-pub mod step;
-pub mod survivors;
+// One step of recover: check, free one header, or finish.
+use image::header::Header;
+use reply::Check;
+use reply::Refusal;
+use search::Found;
+ghost use mathlib.Core.Path.{_≡_};
+ghost use lib.ListN.{length};
+ghost use Rattle.search.specs.First.{firstOf};
+ghost use Rattle.search.specs.Largest.{raised};
+ghost use Rattle.transient.specs.Store.{store};
+ghost use Rattle.survival.specs.Survivors.{survivor};
+ghost use Rattle.recovery.specs.Recover.{antiAt, stale, nextFreed, uidOf, nextUid, entryCheck, recovered, finished, freeing, recover};
+ghost use Rattle.survival.specs.Code.{Headers, HeaderOf, Marked};
+ghost use Rattle.recovery.specs.Code.{FlagAt, Uids, Finishing, Entered, stepped};
+
+// One recover call's answer: "went on", "done", or a refusal.
+pub enum Recovery {
+    WentOn,
+    Done,
+    Declined(Refusal),
+}
+
+fn anti_at(img: &[u32], n: usize, s: usize) -> bool
+    requires { ⌜ HeaderOf (now img) n s ⌝ }
+    ensures { λ r. ⌜ r ≡ antiAt (now (img .entry)) s ⌝ }
+{
+    survival::kept_anti_at(img, n, image::shape::clock(img), s)
+}
+
+fn stale_at(img: &[u32], flags: &[bool; 1024], n: usize, s: usize) -> bool
+    requires { ⌜ FlagAt (now img) n s (now flags) ⌝ }
+    ensures { λ r. ⌜ r ≡ stale (now (img .entry)) n s ⌝ }
+{
+    if image::header::filled(image::header::header_at(img, n, s).kind) {
+        if flags[s] {
+            return false;
+        }
+        if anti_at(img, n, s) { false } else { true }
+    } else {
+        false
+    }
+}
+
+fn first_stale(img: &[u32], flags: &[bool; 1024], n: usize) -> Found
+    requires { ⌜ Marked (now img) n (now flags) ⌝ }
+    ensures { λ r. ⌜ r ≡ firstOf (stale (now (img .entry)) n) n ⌝ }
+{
+    let mut s = 0;
+    while s < n {
+        if stale_at(img, flags, n, s) {
+            return Found::At(s);
+        }
+        s += 1;
+    }
+    Found::Nothing
+}
+
+fn first_anti(img: &[u32], n: usize) -> Found
+    requires { ⌜ Headers (now img) n ⌝ }
+    ensures { λ r. ⌜ r ≡ firstOf (antiAt (now (img .entry))) n ⌝ }
+{
+    let mut s = 0;
+    while s < n {
+        if anti_at(img, n, s) {
+            return Found::At(s);
+        }
+        s += 1;
+    }
+    Found::Nothing
+}
+
+// The header to free next: those that nothing needs first, then the kept DELETEs, which cover payloads until these are gone.
+fn next_freed(img: &[u32], flags: &[bool; 1024], n: usize) -> Found
+    requires { ⌜ Marked (now img) n (now flags) ⌝ }
+    ensures { λ r. ⌜ r ≡ nextFreed (now (img .entry)) n ⌝ }
+{
+    match first_stale(img, flags, n) {
+        Found::At(s) => Found::At(s),
+        Found::Nothing => first_anti(img, n),
+    }
+}
+
+fn raise_uid(img: &[u32], flags: &[bool; 1024], n: usize, s: usize, best: u32) -> u32
+    requires { ⌜ FlagAt (now img) n s (now flags) ⌝ }
+    ensures { λ r. ⌜ r ≡ raised (survivor (now (img .entry)) n) (uidOf (now (img .entry))) s best ⌝ }
+{
+    if flags[s] {
+        let h = image::header::header_at(img, n, s);
+        if best < h.uid { h.uid } else { best }
+    } else {
+        best
+    }
+}
+
+fn next_uid(img: &[u32], flags: &[bool; 1024], n: usize) -> u32
+    requires { ⌜ Uids (now img) n (now flags) ⌝ }
+    ensures { λ r. ⌜ r ≡ nextUid (now (img .entry)) n ⌝ }
+{
+    let mut best = 0;
+    let mut s = 0;
+    while s < n {
+        best = raise_uid(img, flags, n, s, best);
+        s += 1;
+    }
+    best + 1
+}
+
+// Nothing is left to free: working becomes a copy, and the notes are set.
+fn finish(
+    working: &mut [u32],
+    persistent: &[u32],
+    transient: &mut [u32],
+    flags: &[bool; 1024],
+    n: usize,
+)
+    requires { ⌜ Finishing (now working) (now persistent) (now transient) (now flags) n ⌝ }
+    ensures { λ _. ⌜ store (now (working .exit)) (now (persistent .entry)) (now (transient .exit)) ≡ finished (now (persistent .entry)) (length (now (transient .entry))) n ⌝ }
+{
+    let uid = next_uid(persistent, flags, n);
+    image::contents::store_words(working, 0, persistent, persistent.len());
+    transient::set_blank(transient, image::shape::narrow(n - 1), uid);
+}
+
+fn free_next(
+    working: &mut [u32],
+    persistent: &mut [u32],
+    transient: &mut [u32],
+    flags: &[bool; 1024],
+    n: usize,
+) -> Recovery
+    requires { ⌜ Finishing (now working) (now persistent) (now transient) (now flags) n ⌝ }
+    ensures { λ r. ⌜ recovered r (now (working .exit)) (now (persistent .exit)) (now (transient .exit)) ≡ freeing (nextFreed (now (persistent .entry)) n) (store (now (working .entry)) (now (persistent .entry)) (now (transient .entry))) n ⌝ }
+{
+    match next_freed(persistent, flags, n) {
+        Found::At(s) => {
+            image::header::set_header(persistent, n, s, Header::free());
+            Recovery::WentOn
+        }
+        Found::Nothing => {
+            finish(working, persistent, transient, flags, n);
+            Recovery::Done
+        }
+    }
+}
+
+// Refusals 1 and 2; of what recover fills, only the lengths are judged.
+fn check_entry(working: usize, persistent: &[u32], transient: usize) -> Check
+    ensures { λ r. ⌜ r ≡ entryCheck working (now (persistent .entry)) transient ⌝ }
+{
+    if image::shape::shape_ok(persistent) {
+        if working != persistent.len() {
+            return Check::Refused(Refusal::Sizes);
+        }
+        if transient::threads_ok(transient, image::shape::wide(persistent[0])) {
+            acceptance::check_head(persistent)
+        } else {
+            Check::Refused(Refusal::Sizes)
+        }
+    } else {
+        Check::Refused(Refusal::Sizes)
+    }
+}
+
+// What is left of a call past refusals 1 and 2.
+fn recover_sized(
+    working: &mut [u32],
+    persistent: &mut [u32],
+    transient: &mut [u32],
+    n: usize,
+    w: usize,
+) -> Recovery
+    requires { ⌜ Entered (now working) (now persistent) (now transient) n w ⌝ }
+    ensures { λ r. ⌜ recovered r (now (working .exit)) (now (persistent .exit)) (now (transient .exit)) ≡ stepped (store (now (working .entry)) (now (persistent .entry)) (now (transient .entry))) n w ⌝ }
+{
+    let flags = survival::survivors(persistent, n);
+    match acceptance::check_slots(persistent, &flags, n, w) {
+        Check::Refused(r) => Recovery::Declined(r),
+        Check::Accepted => free_next(working, persistent, transient, &flags, n),
+    }
+}
+
+// One recover call, whatever working and transient hold.
+pub fn recover(working: &mut [u32], persistent: &mut [u32], transient: &mut [u32]) -> Recovery
+    ensures { λ r. ⌜ recovered r (now (working .exit)) (now (persistent .exit)) (now (transient .exit)) ≡ recover (store (now (working .entry)) (now (persistent .entry)) (now (transient .entry))) ⌝ }
+{
+    match check_entry(working.len(), persistent, transient.len()) {
+        Check::Refused(r) => Recovery::Declined(r),
+        Check::Accepted => {
+            let n = image::shape::wide(persistent[0]);
+            let w = image::shape::wide(persistent[1]);
+            recover_sized(working, persistent, transient, n, w)
+        }
+    }
+}

@@ -13,6 +13,19 @@ cases false = inr refl
 pub never : {A : Type 0} (b : Bool) → b ≡ true → b ≡ false → A
 never b t f = let z : _≡_ {A = Bool} true false = cc in absurd (true≢false z)
 
+-- a test that cannot pass, one that cannot fail, and two that follow from each other
+pub refuted : (b : Bool) → (b ≡ true → ⊥) → b ≡ false
+refuted true f = absurd (f refl)
+refuted false f = refl
+
+pub upheld : (b : Bool) → (b ≡ false → ⊥) → b ≡ true
+upheld true f = refl
+upheld false f = absurd (f refl)
+
+pub same-test : (a b : Bool) → (a ≡ true → b ≡ true) → (b ≡ true → a ≡ true) → a ≡ b
+same-test true b f g = sym (f refl)
+same-test false b f g = sym (refuted b (λ t. false≢true (g t)))
+
 pub not-is-true : {b : Bool} → b ≡ false → not b ≡ true
 not-is-true e = rw e
 

@@ -1,0 +1,17 @@
+-- `same_version_at`: each way out is a law.
+use borrow.Author.Needs.{needs}
+use Rattle.survival.specs.Code.{laws}
+use Rattle.survival.specs.Code.{marks}
+use Rattle.acceptance.specs.Code.{checks}
+use Rattle.acceptance.proofs.same_version_at.Statement.{statement}
+use Rattle.acceptance.proofs.same_version_at.Tie as tie
+
+pub same-version-at-spec : {M : Type 1} → statement M
+same-version-at-spec =
+    tie.close
+    (tie.spec
+    (λ c κs. search (needs, laws, marks, checks))
+    (λ c κs. search (needs, laws, marks, checks))
+    (λ c. search (needs, laws, marks, checks))
+    (λ c. search (needs, laws, marks, checks))
+    (λ c. search (needs, laws, marks, checks)))

@@ -1,0 +1,4 @@
+pub mod Accept
+pub mod Sound
+pub mod Code
+pub mod Questions

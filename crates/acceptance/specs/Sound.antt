@@ -1,0 +1,103 @@
+-- What an accepted image is sure of, slot by slot.
+use Prim.Native.Nat.{ℕ, _+_, _≤_, _<_}
+use mathlib.Core.Path.{_≡_, refl, sym, ap, _∙_}
+use mathlib.Core.Bool.{Bool, true, false, not, _&&_, _||_}
+use mathlib.Core.Logic.{_≢_, _⊎_, inl, inr, ⊎-elim}
+use mathlib.Core.List.{List}
+use lib.Dec.{leb, eqb}
+use borrow.Author.Tests.{leb-true, eqb-true, not-false}
+use native.Mathlib.Omega.{arith}
+use Rattle.search.specs.Bools.{cases, never, and-left, and-right, or-left, or-right}
+use Rattle.search.specs.Some.{some, some-none, every, every-at}
+use Rattle.reply.specs.declared.Check.{Check}
+use Rattle.reply.specs.declared.Check.the-variants.{Accepted, Refused}
+use Rattle.reply.specs.declared.Refusal.{Refusal}
+use Rattle.reply.specs.declared.Refusal.the-variants.{BadSlot, Duplicate}
+use Rattle.reply.specs.Refusals.{refuse}
+use Rattle.image.specs.declared.header.Header.{Header}
+use Rattle.image.specs.Layout.{filledKind, header, keyAt, clockOf}
+use Rattle.survival.specs.Survivors.{kept, survivor}
+use Rattle.acceptance.specs.Accept.{blankHeader, filledHeader, proper, allProper, nameless, someNameless, versionBelow, versionTwice, keyBelow, keyTwice, slotsCheck}
+
+-- an accepted check went past each condition
+pub not-refused : (b : Bool) (r : Refusal) (next : Check) → refuse b r next ≡ Accepted → (b ≡ false) × (next ≡ Accepted)
+not-refused true r next e = let z : _≡_ {A = ℕ} 0 1 = cc in absurd (omega arith)
+not-refused false r next e = (refl, e)
+
+pub record Sound (l : List ℕ) (n w : ℕ) : Type 0 where
+  pub all-proper : (s : ℕ) → s < n → proper (clockOf l) (header l s) ≡ true
+  pub named : (s : ℕ) → s < n → nameless l n w s ≡ false
+  pub versions : (s : ℕ) → s < n → versionBelow (clockOf l) (header l) s ≡ false
+  pub keys : (s : ℕ) → s < n → keyBelow l n w s ≡ false
+
+pub sound : (l : List ℕ) (n w : ℕ) → slotsCheck l n w ≡ Accepted → Sound l n w
+unfolding slotsCheck allProper someNameless versionTwice keyTwice
+sound l n w e =
+    let p = every (λ s. proper (clockOf l) (header l s)) n in
+    let k = some (nameless l n w) n in
+    let v = some (versionBelow (clockOf l) (header l)) n in
+    let y = some (keyBelow l n w) n in
+    let one = not-refused (not p || k) BadSlot (refuse (v || y) Duplicate Accepted) e in
+    let two = not-refused (v || y) Duplicate Accepted (one .1) in
+    record {
+      all-proper = every-at (λ s. proper (clockOf l) (header l s)) n (not-false p (or-left (not p) k (one .0)));
+      named = some-none (nameless l n w) n (or-right (not p) k (one .0));
+      versions = some-none (versionBelow (clockOf l) (header l)) n (or-left v y (two .0));
+      keys = some-none (keyBelow l n w) n (or-right v y (two .0));
+    }
+
+-- a proper header is free, or filled within its bounds
+pub record FilledOk (c : ℕ) (h : Header) : Type 0 where
+  pub filled : filledKind (h .kind) ≡ true
+  pub epoch-lo : 2 ≤ h .epoch
+  pub epoch-hi : h .epoch ≤ c
+  pub uid-lo : 1 ≤ h .uid
+  pub uid-hi : h .uid ≤ 4000000000
+
+pub record FreeOk (h : Header) : Type 0 where
+  pub kind-is : h .kind ≡ 0
+  pub epoch-is : h .epoch ≡ 0
+  pub uid-is : h .uid ≡ 0
+
+filled-ok : (c : ℕ) (h : Header) → filledHeader c h ≡ true → FilledOk c h
+unfolding filledHeader
+filled-ok c h e =
+    let k = filledKind (h .kind) in
+    let a = leb 2 (h .epoch) in
+    let b = leb (h .epoch) c in
+    let d = leb 1 (h .uid) in
+    let u = leb (h .uid) 4000000000 in
+    let e1 = and-right k (a && (b && (d && u))) e in
+    let e2 = and-right a (b && (d && u)) e1 in
+    let e3 = and-right b (d && u) e2 in
+    record {
+      filled = and-left k (a && (b && (d && u))) e;
+      epoch-lo = leb-true 2 (h .epoch) (and-left a (b && (d && u)) e1);
+      epoch-hi = leb-true (h .epoch) c (and-left b (d && u) e2);
+      uid-lo = leb-true 1 (h .uid) (and-left d u e3);
+      uid-hi = leb-true (h .uid) 4000000000 (and-right d u e3);
+    }
+
+free-ok : (h : Header) → blankHeader h ≡ true → FreeOk h
+unfolding blankHeader
+free-ok h e =
+    let k = eqb (h .kind) 0 in
+    let a = eqb (h .epoch) 0 in
+    let u = eqb (h .uid) 0 in
+    let e1 = and-right k (a && u) e in
+    record {
+      kind-is = eqb-true (h .kind) 0 (and-left k (a && u) e);
+      epoch-is = eqb-true (h .epoch) 0 (and-left a u e1);
+      uid-is = eqb-true (h .uid) 0 (and-right a u e1);
+    }
+
+pub proper-cases : (c : ℕ) (h : Header) → proper c h ≡ true → FreeOk h ⊎ FilledOk c h
+unfolding proper
+proper-cases c h e =
+    ⊎-elim
+    (λ (b : blankHeader h ≡ true). inl (free-ok h b))
+    (λ (b : blankHeader h ≡ false). let f : filledHeader c h ≡ true = rw b at e in inr (filled-ok c h f))
+    (cases (blankHeader h))
+
+pub uid-top : (c : ℕ) (h : Header) → proper c h ≡ true → h .uid ≤ 4000000000
+uid-top c h e = ⊎-elim (λ (f : FreeOk h). omega arith) (λ (f : FilledOk c h). omega arith) (proper-cases c h e)

@@ -1,0 +1,229 @@
+-- A step of recovery keeps acceptance and the survivors and lowers the number of filled slots; at "done" just survivors are left.
+-- The slot it frees is covered (`Freed`): a stale one by what beat it, a kept DELETE because no payload of its uid is left.
+use Prim.Native.Nat.{ℕ, _+_, _<_}
+use mathlib.Core.Path.{_≡_, refl, sym, _∙_}
+use mathlib.Core.Bool.{Bool, true, false, not}
+use mathlib.Core.Logic.{_≢_}
+use mathlib.Core.List.{List}
+use lib.ListN.{length}
+use borrow.Author.Tests.{eq-eqb, not-true, not-false}
+use native.Mathlib.Omega.{arith}
+use native.Mathlib.Decide.{decLt}
+use Rattle.search.specs.Bools.{never, upheld, same-test, and-left, and-right, and-both}
+use Rattle.search.specs.First.{firstOf, First, found-first, found-nothing}
+use Rattle.search.specs.Some.{some, some-at, some-same, none-some, at-every}
+use Rattle.search.specs.Count.{count, count-down}
+use Rattle.search.specs.declared.Found.{Found}
+use Rattle.search.specs.declared.Found.the-variants.{At, Nothing}
+use Rattle.reply.specs.declared.Check.{Check}
+use Rattle.reply.specs.declared.Check.the-variants.{Accepted, Refused}
+use Rattle.reply.specs.declared.Refusal.the-variants.{Sizes, Clock}
+use Rattle.reply.specs.Refusals.{refuse, andThen}
+use Rattle.image.specs.Layout.{filledKind, header, contents, keyAt, valueAt, slotsOf, widthOf, clockOf, shapeOk, clockOk, setHeader, freeHeader, Sized}
+use Rattle.image.specs.Laws.{length-setHeader, front-setHeader, header-same, header-other, contents-setHeader, key-setHeader, value-setHeader}
+use Rattle.image.specs.Code.{shaped, header-fits}
+use Rattle.survival.specs.Survivors.{survivor}
+use Rattle.acceptance.specs.Accept.{proper, allProper, nameless, someNameless, versionBelow, versionTwice, survivesAs, keyBelow, keyTwice, headCheck, slotsCheck, imageCheck}
+use Rattle.recovery.specs.Recover.{antiAt, stale, nextFreed}
+use Rattle.acceptance.specs.Sound.{Sound, sound, not-refused}
+use Rattle.recovery.specs.Freed.{Freed, Covered, anti-says, survives-filled, kept-filled, freed-survives, freed-proper, freed-versions, stale-covered, anti-dies, anti-covered}
+
+unfoldable pub filledAt : List ℕ → ℕ → Bool
+filledAt l s = filledKind (header l s .kind)
+
+-- l′ has the sizes, the clock, the survivors and the contents of l
+pub record SameSurvivors (l l′ : List ℕ) : Type 0 where
+  pub long : length l′ ≡ length l
+  pub slots : slotsOf l′ ≡ slotsOf l
+  pub width : widthOf l′ ≡ widthOf l
+  pub clock : clockOf l′ ≡ clockOf l
+  pub survivors : (s : ℕ) → s < slotsOf l → survivor l′ (slotsOf l) s ≡ survivor l (slotsOf l) s
+  pub headers : (s : ℕ) → s < slotsOf l → survivor l (slotsOf l) s ≡ true → header l′ s ≡ header l s
+  pub lines : (s : ℕ) → contents l′ (slotsOf l) (widthOf l) s ≡ contents l (slotsOf l) (widthOf l) s
+  pub keys : (s : ℕ) → keyAt l′ (slotsOf l) (widthOf l) s ≡ keyAt l (slotsOf l) (widthOf l) s
+  pub values : (s : ℕ) → valueAt l′ (slotsOf l) (widthOf l) s ≡ valueAt l (slotsOf l) (widthOf l) s
+
+-- ---- an accepted image
+both-accepted : (a b : Check) → andThen a b ≡ Accepted → (a ≡ Accepted) × (b ≡ Accepted)
+both-accepted Accepted b e = (refl, e)
+both-accepted (Refused r) b e = let z : _≡_ {A = ℕ} 0 1 = cc in absurd (omega arith)
+
+record AcceptedImage (l : List ℕ) : Type 0 where
+  head : headCheck l ≡ Accepted
+  sized : Sized l (slotsOf l) (widthOf l)
+  sound : Sound l (slotsOf l) (widthOf l)
+
+accepted-image : (l : List ℕ) → imageCheck l ≡ Accepted → AcceptedImage l
+unfolding imageCheck headCheck
+accepted-image l e =
+    let both = both-accepted (headCheck l) (slotsCheck l (slotsOf l) (widthOf l)) e in
+    let shape = not-refused (not (shapeOk l)) Sizes (refuse (not (clockOk (clockOf l))) Clock Accepted) (both .0) in
+    record { head = both .0; sized = shaped l (not-false (shapeOk l) (shape .0)); sound = sound l (slotsOf l) (widthOf l) (both .1) }
+
+sound-accepted : (l : List ℕ) → headCheck l ≡ Accepted → Sound l (slotsOf l) (widthOf l) → imageCheck l ≡ Accepted
+unfolding imageCheck slotsCheck allProper someNameless versionTwice keyTwice
+sound-accepted l head s =
+    let n = slotsOf l in
+    let w = widthOf l in
+    rw (
+      head,
+      at-every (λ t. proper (clockOf l) (header l t)) n (s .all-proper),
+      none-some (nameless l n w) n (s .named),
+      none-some (versionBelow (clockOf l) (header l)) n (s .versions),
+      none-some (keyBelow l n w) n (s .keys),
+    )
+
+-- ---- the slot freed next: filled, no survivor, covered
+record Spent (l : List ℕ) (n s : ℕ) : Type 0 where
+  below : s < n
+  filled : filledAt l s ≡ true
+  dies : survivor l n s ≡ false
+  covered : Covered (clockOf l) (header l) n s
+
+stale-spent : (l : List ℕ) (n s : ℕ) → First (stale l n) n s → Spent l n s
+unfolding stale filledAt survivor antiAt
+stale-spent l n s f =
+    let full = filledKind (header l s .kind) in
+    let out = not (survivor l n s) in
+    let rest = and-right full _ (f .passes) in
+    let dies = not-true (survivor l n s) (and-left out _ rest) in
+    record {
+      below = f .below;
+      filled = and-left full _ (f .passes);
+      dies = dies;
+      covered = stale-covered (clockOf l) (header l) n s dies (not-true (antiAt l s) (and-right out _ rest));
+    }
+
+-- past the first pass every filled slot that does not survive is a kept DELETE
+none-stale : (l : List ℕ) (n s : ℕ) → stale l n s ≡ false → filledAt l s ≡ true → survivor l n s ≡ false → antiAt l s ≡ true
+unfolding stale filledAt
+none-stale l n s u f d = not-false (antiAt l s) (rw (f, d) at u)
+
+anti-spent : (l : List ℕ) (n s : ℕ) → ((t : ℕ) → t < n → stale l n t ≡ false) → First (antiAt l) n s → Spent l n s
+unfolding filledAt survivor antiAt
+anti-spent l n s none f =
+    let a = anti-says (clockOf l) (header l s) (f .passes) in
+    record {
+      below = f .below;
+      filled = kept-filled (clockOf l) (header l s) (a .is-kept);
+      dies = anti-dies (clockOf l) (header l) n s (f .passes);
+      covered = anti-covered (clockOf l) (header l) n s (f .below) (λ t h. none-stale l n t (none t h));
+    }
+
+next-spent : (l : List ℕ) (n s : ℕ) → nextFreed l n ≡ At s → Spent l n s
+unfolding nextFreed
+next-spent l n s e = go (firstOf (stale l n) n) refl
+  where
+    go : (f : Found) → firstOf (stale l n) n ≡ f → Spent l n s
+    go (At t) q = stale-spent l n s (found-first (stale l n) n (q ∙ (rw q at e)))
+    go Nothing q = anti-spent l n s (found-nothing (stale l n) n q) (found-first (antiAt l) n (rw q at e))
+
+-- ---- one step
+module _ (l : List ℕ) (s : ℕ) (ok : imageCheck l ≡ Accepted) (next : nextFreed l (slotsOf l) ≡ At s) where
+  freed : Freed (header l) (header (setHeader l s freeHeader)) s
+  freed =
+      record {
+        here = header-same freeHeader (header-fits (accepted-image l ok .sized) (next-spent l (slotsOf l) s next .below));
+        there = λ t d. header-other l s t freeHeader d;
+      }
+
+  pub step-keeps : SameSurvivors l (setHeader l s freeHeader)
+  unfolding survivor
+  step-keeps =
+      let n = slotsOf l in
+      let p = next-spent l n s next in
+      let clock : clockOf (setHeader l s freeHeader) ≡ clockOf l = front-setHeader l s 2 freeHeader (omega arith) in
+      record {
+        long = length-setHeader l s freeHeader;
+        slots = front-setHeader l s 0 freeHeader (omega arith);
+        width = front-setHeader l s 1 freeHeader (omega arith);
+        clock = clock;
+        survivors = λ t h. rw clock (freed-survives (clockOf l) freed n (p .dies) (p .covered) t h);
+        headers = λ t h v. header-other l s t freeHeader (λ e. never _ (rw e at v) (p .dies));
+        lines = λ t. contents-setHeader l n (widthOf l) s t freeHeader (p .below);
+        keys = λ t. key-setHeader l n (widthOf l) s t freeHeader (p .below);
+        values = λ t. value-setHeader l n (widthOf l) s t freeHeader (p .below);
+      }
+
+  pub step-lowers : count (filledAt l) (slotsOf l) ≡ count (filledAt (setHeader l s freeHeader)) (slotsOf l) + 1
+  unfolding filledAt filledKind
+  step-lowers =
+      let p = next-spent l (slotsOf l) s next in
+      count-down (filledAt l) (filledAt (setHeader l s freeHeader)) (slotsOf l) s (p .below) (p .filled)
+      (rw (freed .here))
+      (λ t h d. rw (freed .there t d))
+
+-- ---- acceptance goes by the survivors, but for properness and versions
+module _ {l l′ : List ℕ} (same : SameSurvivors l l′) where
+  head-same : headCheck l′ ≡ headCheck l
+  unfolding headCheck shapeOk
+  head-same = rw (same .long, same .slots, same .width, same .clock)
+
+  named-same : (s : ℕ) → s < slotsOf l → nameless l′ (slotsOf l) (widthOf l) s ≡ nameless l (slotsOf l) (widthOf l) s
+  unfolding nameless
+  named-same s h = rw (same .survivors s h, same .keys s)
+
+  keys-same : (s : ℕ) → s < slotsOf l → keyBelow l′ (slotsOf l) (widthOf l) s ≡ keyBelow l (slotsOf l) (widthOf l) s
+  unfolding keyBelow survivesAs
+  keys-same s h =
+      let n = slotsOf l in
+      let w = widthOf l in
+      let k = keyAt l n w s in
+      let below = some-same (survivesAs l′ n w k) (survivesAs l n w k) s (λ t u. rw (same .survivors t (omega arith), same .keys t)) in
+      rw (same .survivors s h, same .keys s, below)
+
+pub step-accepted : (l : List ℕ) (s : ℕ) → imageCheck l ≡ Accepted → nextFreed l (slotsOf l) ≡ At s → imageCheck (setHeader l s freeHeader) ≡ Accepted
+step-accepted l s ok next =
+    let same = step-keeps l s ok next in
+    let f = freed l s ok next in
+    let was = accepted-image l ok in
+    let before = was .sound in
+    sound-accepted (setHeader l s freeHeader) (head-same same ∙ was .head)
+    (rw (same .slots, same .width)
+    record {
+      all-proper = λ t h. rw (same .clock) (freed-proper (clockOf l) f t (before .all-proper t h));
+      named = λ t h. named-same same t h ∙ before .named t h;
+      versions = λ t h. rw (same .clock) (freed-versions (clockOf l) f t (before .versions t h));
+      keys = λ t h. keys-same same t h ∙ before .keys t h;
+    })
+
+-- ---- where nothing is left to free
+none-next : (l : List ℕ) (n : ℕ) → nextFreed l n ≡ Nothing → (s : ℕ) → s < n → (stale l n s ≡ false) × (antiAt l s ≡ false)
+unfolding nextFreed
+none-next l n e s h = go (firstOf (stale l n) n) refl
+  where
+    go : (f : Found) → firstOf (stale l n) n ≡ f → (stale l n s ≡ false) × (antiAt l s ≡ false)
+    go (At t) q = let y : At t ≡ Nothing = rw q at e in let z : _≡_ {A = ℕ} 0 1 = cc in absurd (omega arith)
+    go Nothing q = (found-nothing (stale l n) n q s h, found-nothing (antiAt l) n (rw q at e) s h)
+
+pub done-survivors : (l : List ℕ) → nextFreed l (slotsOf l) ≡ Nothing → (s : ℕ) → s < slotsOf l → survivor l (slotsOf l) s ≡ filledAt l s
+unfolding survivor filledAt
+done-survivors l e s h =
+    let n = slotsOf l in
+    let none = none-next l n e s h in
+    same-test (survivor l n s) (filledAt l s)
+    (λ v. survives-filled (clockOf l) (header l) n s v)
+    (λ f. upheld (survivor l n s) (λ d. never _ (none-stale l n s (none .0) f d) (none .1)))
+
+-- ---- survivors have names, and different ones
+pub survivor-named : (l : List ℕ) → imageCheck l ≡ Accepted → (s : ℕ) → s < slotsOf l → survivor l (slotsOf l) s ≡ true → keyAt l (slotsOf l) (widthOf l) s ≢ 0
+unfolding nameless
+survivor-named l ok s h v e =
+    never (nameless l (slotsOf l) (widthOf l) s) (and-both v (eq-eqb _ 0 e)) (accepted-image l ok .sound .named s h)
+
+key-once : (l : List ℕ) → imageCheck l ≡ Accepted → (s t : ℕ) → s < slotsOf l → t < s → survivor l (slotsOf l) s ≡ true → survivor l (slotsOf l) t ≡ true
+    → keyAt l (slotsOf l) (widthOf l) t ≢ keyAt l (slotsOf l) (widthOf l) s
+unfolding keyBelow survivesAs
+key-once l ok s t h u v x e =
+    let n = slotsOf l in
+    let w = widthOf l in
+    let below = some-at (survivesAs l n w (keyAt l n w s)) s t u (and-both x (eq-eqb _ _ e)) in
+    never (keyBelow l n w s) (and-both v below) (accepted-image l ok .sound .keys s h)
+
+pub survivors-apart : (l : List ℕ) → imageCheck l ≡ Accepted → (s t : ℕ) → s < slotsOf l → t < slotsOf l → s ≢ t → survivor l (slotsOf l) s ≡ true
+    → survivor l (slotsOf l) t ≡ true → keyAt l (slotsOf l) (widthOf l) s ≢ keyAt l (slotsOf l) (widthOf l) t
+survivors-apart l ok s t h k d v x e =
+    elim (decLt s t) [
+      | yes u ↦ key-once l ok t s k u x v e
+      | no u ↦ key-once l ok s t h (omega arith) v x (sym e)
+    ]
