@@ -14,14 +14,13 @@ use Rattle.reply.specs.declared.Check.{Check}
 use Rattle.reply.specs.declared.Check.the-variants.{Accepted, Refused}
 use Rattle.reply.specs.declared.Refusal.{Refusal}
 use Rattle.reply.specs.declared.Refusal.the-variants.{Sizes, Clock}
-use Rattle.reply.specs.Refusals.{refuse, answered, declinedNumber}
+use Rattle.reply.specs.Refusals.{refuse, answered, declinedNumber, not-refused}
 use Rattle.image.specs.Layout.{slotsOf, widthOf, clockOf, shapeOk, clockOk, stored, Sized}
 use Rattle.image.specs.Bytes.{wordsOf, Decodes, words-length}
 use Rattle.image.specs.Laws.{stored-front, length-stored}
 use Rattle.image.specs.Code.{shaped}
 use Rattle.survival.specs.Survivors.{survivorCount}
 use Rattle.acceptance.specs.Accept.{headCheck, slotsCheck, imageCheck}
-use Rattle.acceptance.specs.Sound.{not-refused}
 use Rattle.survival.specs.Code.{Headers, Marked, AllMarked, headers-of}
 
 unfoldable pub clockAnswer : List ℕ → ℕ

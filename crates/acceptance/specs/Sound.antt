@@ -13,16 +13,11 @@ use Rattle.reply.specs.declared.Check.{Check}
 use Rattle.reply.specs.declared.Check.the-variants.{Accepted, Refused}
 use Rattle.reply.specs.declared.Refusal.{Refusal}
 use Rattle.reply.specs.declared.Refusal.the-variants.{BadSlot, Duplicate}
-use Rattle.reply.specs.Refusals.{refuse}
+use Rattle.reply.specs.Refusals.{refuse, not-refused}
 use Rattle.image.specs.declared.header.Header.{Header}
 use Rattle.image.specs.Layout.{filledKind, header, keyAt, clockOf}
 use Rattle.survival.specs.Survivors.{kept, survivor}
 use Rattle.acceptance.specs.Accept.{blankHeader, filledHeader, proper, allProper, nameless, someNameless, versionBelow, versionTwice, keyBelow, keyTwice, slotsCheck}
-
--- an accepted check went past each condition
-pub not-refused : (b : Bool) (r : Refusal) (next : Check) → refuse b r next ≡ Accepted → (b ≡ false) × (next ≡ Accepted)
-not-refused true r next e = let z : _≡_ {A = ℕ} 0 1 = cc in absurd (omega arith)
-not-refused false r next e = (refl, e)
 
 pub record Sound (l : List ℕ) (n w : ℕ) : Type 0 where
   pub all-proper : (s : ℕ) → s < n → proper (clockOf l) (header l s) ≡ true

@@ -4,7 +4,7 @@ use mathlib.Core.Path.{_≡_, refl, sym, ap, _∙_}
 use mathlib.Core.List.{List}
 use mathlib.Core.Bool.{Bool, true, false, _&&_}
 use mathlib.Core.Logic.{⊎-elim}
-use lib.ListN.{length, getD, set, take, drop, length-set}
+use lib.ListN.{length, getD, set, take, drop, replicate, length-set, length-replicate, getD-replicate}
 use lib.Dec.{leb, ltb, eqb}
 use borrow.Author.Tests.{leb-true, eqb-true, ne-eqb}
 use native.Mathlib.Omega.{arith}
@@ -16,7 +16,7 @@ use Rattle.search.specs.Bools.{cases, and-left, and-right, tests}
 use Rattle.image.specs.declared.header.Header.{Header}
 use Rattle.image.specs.Layout.{headerAt, contentsAt, imageWords, kindAt, epochAt, uidAt, header, headerOf, contents, keyAt, setHeader, stored, setContents, setClock, sizesOk, shapeOk, slotsOf, widthOf, Sizes, Sized, Slot, Slots, SlotLine, HeaderFits}
 use Rattle.image.specs.Bytes.{wordsOf, Byte, InWords, Decodes, words-at}
-use Rattle.image.specs.Laws.{room-of, length-stored, length-contents}
+use Rattle.image.specs.Laws.{room-of, length-stored, length-contents, stored-whole}
 
 -- ---- headers
 pub slot : {l : List ℕ} {n w s : ℕ} → Sized l n w → s < n → Slot l n w s
@@ -126,12 +126,29 @@ module _ (l : List ℕ) {n w : ℕ} {r : Bool} (slots : n ≡ slotsOf l) (width 
   unfolding shapeOk
   shape-long t e = rw (← slots, ← width, ← ok, t, ← e)
 
--- ---- bytes
+-- ---- stored from the front
 pub front-next : {dst₀ src : List ℕ} {k j : ℕ} {dst : List ℕ} {v : ℕ} → Storing dst₀ 0 src k j dst → j < k → v ≡ getD src j 0
     → Storing dst₀ 0 src k (j + 1) (set dst j v)
 front-next {dst₀} {src} {k} {j} {dst} {v} z h e =
     let i : 0 + j ≡ j = omega arith in rw i at (storing-next z h e)
 
+-- ---- a loop has cleared j words
+abbrev pub Clearing : List ℕ → ℕ → List ℕ → Type 0
+Clearing l₀ j l = Storing l₀ 0 (replicate (length l₀) 0) (length l₀) j l
+
+pub clearing-start : (l : List ℕ) → Clearing l 0 l
+clearing-start l = storing-start l 0 (replicate (length l) 0) (length l)
+
+pub clearing-next : {l₀ : List ℕ} {j : ℕ} {l : List ℕ} → Clearing l₀ j l → j < length l → Clearing l₀ (j + 1) (set l j 0)
+clearing-next {l₀} {j} {l} z h =
+    let u : j < length l₀ = omega (arith, z .long) in
+    front-next z u (sym (getD-replicate (length l₀) j 0 0 u))
+
+pub clearing-end : {l₀ : List ℕ} {j : ℕ} {l : List ℕ} → Clearing l₀ j l → length l ≤ j → l ≡ replicate (length l₀) 0
+clearing-end {l₀} z h =
+    storing-end z (omega (arith, z .long)) ∙ stored-whole l₀ (replicate (length l₀) 0) (length-replicate (length l₀) 0)
+
+-- ---- bytes
 pub word-made : (bytes : List ℕ) (k i : ℕ) {a b c d : ℕ} → InWords bytes k i → Byte (getD bytes (4 * i) 0) a → Byte (getD bytes (4 * i + 1) 0) b
     → Byte (getD bytes (4 * i + 2) 0) c → Byte (getD bytes (4 * i + 3) 0) d → a + 256 * b + 65536 * c + 16777216 * d ≡ getD (wordsOf bytes) i 0
 word-made bytes k i z a b c d = rw (a .same, b .same, c .same, d .same) (words-at k bytes i (z .whole) (z .below))
@@ -139,4 +156,4 @@ word-made bytes k i z a b c d = rw (a .same, b .same, c .same, d .same) (words-a
 pub in-words : {bytes words : List ℕ} {k i : ℕ} → Decodes bytes words k → i < k → InWords bytes k i
 in-words z h = record { whole = z .whole; below = h }
 
-pub ruleset laws = (tests, slot, header-fits, header-is, header-stored, key-is, storing-start, storing-next, storing-end, contents-stored, part-line, part-copied, area-fits, whole-fits, sizes-true, shape-short, shape-sizes, shape-long, in-words, front-next, word-made)
+pub ruleset laws = (tests, slot, header-fits, header-is, header-stored, key-is, storing-start, storing-next, storing-end, contents-stored, part-line, part-copied, area-fits, whole-fits, sizes-true, shape-short, shape-sizes, shape-long, in-words, front-next, clearing-start, clearing-next, clearing-end, word-made)

@@ -2,7 +2,7 @@
 use crate::header::Header;
 ghost use mathlib.Core.Path.{_≡_};
 ghost use Prim.Native.Nat.{_+_, _≤_};
-ghost use lib.ListN.{length};
+ghost use lib.ListN.{length, replicate};
 ghost use Rattle.image.specs.Layout.{Slot, Slots, keyAt, stored, contents, setContents, SlotLine};
 
 pub fn key_at(img: &[u32], n: usize, w: usize, s: usize) -> u32
@@ -41,4 +41,15 @@ pub fn copy_contents(src: &[u32], dst: &mut [u32], n: usize, w: usize, s: usize)
     let b = 3 + Header::WORDS * n + w * s;
     let e = b + w;
     set_contents(dst, n, w, s, &src[b..e]);
+}
+
+// Every word 0.
+pub fn clear(l: &mut [u32])
+    ensures { λ _. ⌜ now (l .exit) ≡ replicate (length (now (l .entry))) 0 ⌝ }
+{
+    let mut j = 0;
+    while j < l.len() {
+        l[j] = 0;
+        j += 1;
+    }
 }

@@ -19,7 +19,7 @@ use Rattle.reply.specs.declared.Check.{Check}
 use Rattle.reply.specs.declared.Check.the-variants.{Accepted, Refused}
 use Rattle.reply.specs.declared.Refusal.{Refusal}
 use Rattle.reply.specs.declared.Refusal.the-variants.{Sizes, Clock}
-use Rattle.reply.specs.Refusals.{refuse}
+use Rattle.reply.specs.Refusals.{refuse, not-refused}
 use Rattle.image.specs.declared.header.Header.{Header}
 use Rattle.image.specs.Layout.{filledKind, header, slotsOf, widthOf, clockOf, shapeOk, clockOk, stored, setHeader, freeHeader, HeaderFits, Sized}
 use Rattle.image.specs.Laws.{stored-whole}
@@ -28,7 +28,7 @@ use Rattle.transient.specs.Store.{Store, store}
 use Rattle.transient.specs.Layout.{threadsOf, threadsOk, blank}
 use Rattle.survival.specs.Survivors.{survivor, keptAnti}
 use Rattle.acceptance.specs.Accept.{headCheck, slotsCheck, proper}
-use Rattle.acceptance.specs.Sound.{Sound, sound, not-refused, uid-top}
+use Rattle.acceptance.specs.Sound.{Sound, sound, uid-top}
 use Rattle.recovery.specs.Recover.{antiAt, stale, orElse, nextFreed, uidOf, nextUid, lengthsFit, entryCheck, recoverCheck, Recovered, recovered, finished, freeing, judged, recover}
 use Rattle.survival.specs.Code.{Headers, HeaderOf, Marked, AllMarked, flag-is, headers-of, header-in}
 use Rattle.recovery.specs.declared.Recovery.{Recovery}

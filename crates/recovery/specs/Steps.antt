@@ -18,14 +18,14 @@ use Rattle.search.specs.declared.Found.the-variants.{At, Nothing}
 use Rattle.reply.specs.declared.Check.{Check}
 use Rattle.reply.specs.declared.Check.the-variants.{Accepted, Refused}
 use Rattle.reply.specs.declared.Refusal.the-variants.{Sizes, Clock}
-use Rattle.reply.specs.Refusals.{refuse, andThen}
+use Rattle.reply.specs.Refusals.{refuse, andThen, not-refused}
 use Rattle.image.specs.Layout.{filledKind, header, contents, keyAt, valueAt, slotsOf, widthOf, clockOf, shapeOk, clockOk, setHeader, freeHeader, Sized}
 use Rattle.image.specs.Laws.{length-setHeader, front-setHeader, header-same, header-other, contents-setHeader, key-setHeader, value-setHeader}
 use Rattle.image.specs.Code.{shaped, header-fits}
 use Rattle.survival.specs.Survivors.{survivor}
 use Rattle.acceptance.specs.Accept.{proper, allProper, nameless, someNameless, versionBelow, versionTwice, survivesAs, keyBelow, keyTwice, headCheck, slotsCheck, imageCheck}
 use Rattle.recovery.specs.Recover.{antiAt, stale, nextFreed}
-use Rattle.acceptance.specs.Sound.{Sound, sound, not-refused}
+use Rattle.acceptance.specs.Sound.{Sound, sound}
 use Rattle.recovery.specs.Freed.{Freed, Covered, anti-says, survives-filled, kept-filled, freed-survives, freed-proper, freed-versions, stale-covered, anti-dies, anti-covered}
 
 unfoldable pub filledAt : List ℕ → ℕ → Bool

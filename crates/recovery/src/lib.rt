@@ -118,7 +118,7 @@ fn finish(
 {
     let uid = next_uid(persistent, flags, n);
     image::contents::store_words(working, 0, persistent, persistent.len());
-    transient::set_blank(transient, image::shape::narrow(n - 1), uid);
+    transient::notes::set_blank(transient, image::shape::narrow(n - 1), uid);
 }
 
 fn free_next(
@@ -151,7 +151,7 @@ fn check_entry(working: usize, persistent: &[u32], transient: usize) -> Check
         if working != persistent.len() {
             return Check::Refused(Refusal::Sizes);
         }
-        if transient::threads_ok(transient, image::shape::wide(persistent[0])) {
+        if transient::notes::threads_ok(transient, image::shape::wide(persistent[0])) {
             acceptance::check_head(persistent)
         } else {
             Check::Refused(Refusal::Sizes)

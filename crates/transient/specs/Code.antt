@@ -1,18 +1,26 @@
 -- What the proofs of this crate's functions cite.
-use Prim.Native.Nat.{ℕ, _+_, _*_, _-_, _≤_, _<_}
+use Prim.Native.Nat.{ℕ, _+_, _*_, _-_, _%_, _≤_, _<_}
 use mathlib.Core.Path.{_≡_, refl, sym, ap, _∙_}
-use mathlib.Core.Bool.{Bool, true, false, _&&_}
+use mathlib.Core.Bool.{Bool, true, false, not, _&&_, _||_}
 use mathlib.Core.List.{List}
-use lib.ListN.{length, getD, set, replicate, length-set, length-replicate, getD-replicate}
-use lib.Dec.{leb, ltb}
-use borrow.Author.Tests.{lt-ltb, le-ltb, le-leb, lt-leb, ltb-true, ltb-false}
-use native.Mathlib.Omega.{arith}
 use mathlib.Core.Logic.{⊎-elim}
-use Rattle.search.specs.Bools.{cases}
-use Rattle.image.specs.Layout.{stored}
-use Rattle.image.specs.Laws.{stored-whole}
-use Rattle.image.specs.Code.{Storing, storing-start, front-next, storing-end}
-use Rattle.transient.specs.Layout.{threadsOf, threadsOk, blank}
+use lib.ListN.{length, getD, set, replicate}
+use lib.Dec.{leb, ltb, eqb}
+use borrow.Author.Tests.{lt-ltb, le-ltb, le-leb, lt-leb, eq-eqb, ne-eqb, ltb-true, ltb-false, leb-true, eqb-true, not-false}
+use native.Mathlib.Omega.{arith}
+use Rattle.search.specs.Bools.{cases, and-left, and-right, tests}
+use Rattle.search.specs.Some.{every, loops as everies}
+use Rattle.reply.specs.declared.Check.{Check}
+use Rattle.reply.specs.declared.Check.the-variants.{Accepted, Refused}
+use Rattle.reply.specs.declared.Refusal.{Refusal}
+use Rattle.reply.specs.declared.Refusal.the-variants.{Sizes, Clock}
+use Rattle.reply.specs.Refusals.{refuse, not-refused}
+use Rattle.image.specs.Layout.{slotsOf, widthOf, clockOf, shapeOk, clockOk, Sized}
+use Rattle.image.specs.Code.{shaped}
+use Rattle.transient.specs.Store.{Store, store}
+use Rattle.transient.specs.Layout.{threadsOf, threadsOk, blank, lastTaken, nextUidOf, placeSlot, openEpoch, listBase, waitingAt, setLast, setNextUid, setOpen, setRetired, setWaiting, ThreadRoom, Notes, NoteOf, ThreadOf}
+use Rattle.transient.specs.Laws.{base-top}
+use Rattle.transient.specs.Entry.{imagesFit, uidOk, notesFit, sizesFit, openOk, opensOk, clocksFit, threads, entryCheck}
 
 pub threads-few : (len n : ℕ) → len < 4 + 3 * n + 1 → false ≡ threadsOk len n
 unfolding threadsOk
@@ -27,24 +35,225 @@ threads-rest len n h =
     (λ (f : ltb (len - (4 + 3 * n + 1)) 16 ≡ false). f ∙ sym (lt-leb (threadsOf len n) 16 (omega (arith, ltb-false (len - (4 + 3 * n + 1)) 16 f))))
     (cases (ltb (len - (4 + 3 * n + 1)) 16)))
 
--- ---- a loop has cleared j words
-abbrev pub Clearing : List ℕ → ℕ → List ℕ → Type 0
-Clearing l₀ j l = Storing l₀ 0 (replicate (length l₀) 0) (length l₀) j l
-
-pub clearing-start : (l : List ℕ) → Clearing l 0 l
-clearing-start l = storing-start l 0 (replicate (length l) 0) (length l)
-
-pub clearing-next : {l₀ : List ℕ} {j : ℕ} {l : List ℕ} → Clearing l₀ j l → j < length l → Clearing l₀ (j + 1) (set l j 0)
-clearing-next {l₀} {j} {l} z h =
-    let u : j < length l₀ = omega (arith, z .long) in
-    front-next z u (sym (getD-replicate (length l₀) j 0 0 u))
-
-pub clearing-end : {l₀ : List ℕ} {j : ℕ} {l : List ℕ} → Clearing l₀ j l → length l ≤ j → l ≡ replicate (length l₀) 0
-clearing-end {l₀} z h =
-    storing-end z (omega (arith, z .long)) ∙ stored-whole l₀ (replicate (length l₀) 0) (length-replicate (length l₀) 0)
-
 pub blank-set : (l : List ℕ) {z : List ℕ} (last uid : ℕ) → z ≡ replicate (length l) 0 → set (set z 0 last) 1 uid ≡ blank (length l) last uid
 unfolding blank
 blank-set l last uid e = rw e
 
-pub ruleset laws = (threads-few, threads-rest, clearing-start, clearing-next, clearing-end, blank-set)
+-- ---- writers
+pub record Based (n e b : ℕ) : Type 0 where
+  pub same : b ≡ listBase n e
+  pub top : b ≤ n
+
+pub based-even : (n e : ℕ) → e % 2 ≡ 0 → Based n e 0
+unfolding listBase
+based-even n e h = record { same = rw (eq-eqb (e % 2) 0 h); top = omega arith }
+
+pub based-odd : (n e : ℕ) → (e % 2 ≡ 0 → ⊥) → Based n e n
+unfolding listBase
+based-odd n e h = record { same = rw (ne-eqb (e % 2) 0 h); top = omega arith }
+
+module _ (tr : List ℕ) where
+  pub last-stored : (s : ℕ) → set tr 0 s ≡ setLast tr s
+  unfolding setLast
+  last-stored s = refl
+
+  pub uid-stored : (u : ℕ) → set tr 1 u ≡ setNextUid tr u
+  unfolding setNextUid
+  uid-stored u = refl
+
+  pub open-stored : (thread e : ℕ) → set tr (4 + thread) e ≡ setOpen tr thread e
+  unfolding setOpen
+  open-stored thread e = refl
+
+  pub retired-stored : (t s e : ℕ) → set tr (4 + t + s) e ≡ setRetired tr t s e
+  unfolding setRetired
+  retired-stored t s e = refl
+
+  pub waiting-stored : (n t e s : ℕ) {b : ℕ} → Based n e b → set tr (4 + t + n + b + s) 1 ≡ setWaiting tr n t e s
+  unfolding setWaiting
+  waiting-stored n t e s z = rw (z .same)
+
+pub ruleset laws = (tests, threads-few, threads-rest, blank-set, based-even, based-odd, last-stored, uid-stored, open-stored, retired-stored, waiting-stored)
+
+-- ---- refusal 1
+pub shape-second : (l : List ℕ) {s : Bool} → s ≡ shapeOk l → s ≡ true → 1 < length l
+shape-second l e t = let z = shaped l (sym e ∙ t) in omega arith
+
+pub shape-in : (l : List ℕ) (j : ℕ) {s : Bool} → s ≡ shapeOk l → s ≡ true → j < 3 → j < length l
+shape-in l j e t h = let z = shaped l (sym e ∙ t) in omega arith
+
+module _ (wk l : List ℕ) {s : Bool} (sh : s ≡ shapeOk wk) where
+  pub images-working : s ≡ false → false ≡ imagesFit wk l
+  unfolding imagesFit
+  images-working e = rw (← sh, e)
+
+  module _ {p : Bool} (st : s ≡ true) (ps : p ≡ shapeOk l) where
+    pub images-persistent : p ≡ false → false ≡ imagesFit wk l
+    unfolding imagesFit
+    images-persistent e = rw (← sh, st, ← ps, e)
+
+    pub images-slots : p ≡ true → (slotsOf l ≡ slotsOf wk → ⊥) → false ≡ imagesFit wk l
+    unfolding imagesFit
+    images-slots e d = rw (← sh, st, ← ps, e, ne-eqb (slotsOf l) (slotsOf wk) d)
+
+    pub images-width : p ≡ true → slotsOf l ≡ slotsOf wk → eqb (widthOf l) (widthOf wk) ≡ imagesFit wk l
+    unfolding imagesFit
+    images-width e d = rw (← sh, st, ← ps, e, eq-eqb (slotsOf l) (slotsOf wk) d)
+
+module _ (tr : List ℕ) (n : ℕ) {a : ℕ} (la : a ≡ lastTaken tr) where
+  pub notes-last : n ≤ a → false ≡ notesFit tr n
+  unfolding notesFit
+  notes-last h = rw (le-ltb (lastTaken tr) n (omega arith))
+
+  module _ {b : ℕ} (h : a < n) (pl : b ≡ placeSlot tr) where
+    pub notes-place : n ≤ b → false ≡ notesFit tr n
+    unfolding notesFit
+    notes-place k = rw (lt-ltb (lastTaken tr) n (omega arith), le-ltb (placeSlot tr) n (omega arith))
+
+    pub notes-uid : {r : Bool} → b < n → r ≡ uidOk (nextUidOf tr) → r ≡ notesFit tr n
+    unfolding notesFit
+    notes-uid k u = rw (lt-ltb (lastTaken tr) n (omega arith), lt-ltb (placeSlot tr) n (omega arith)) u
+
+images-shaped : (wk l : List ℕ) → imagesFit wk l ≡ true → Sized wk (slotsOf wk) (widthOf wk)
+unfolding imagesFit
+images-shaped wk l e = shaped wk (and-left (shapeOk wk) _ e)
+
+module _ (wk l tr : List ℕ) {f : Bool} (fi : f ≡ imagesFit wk l) where
+  pub sizes-images : f ≡ false → false ≡ sizesFit wk l tr
+  unfolding sizesFit
+  sizes-images e = rw (← fi, e)
+
+  pub images-in : (j : ℕ) → f ≡ true → j < 3 → j < length wk
+  images-in j t h = let z = images-shaped wk l (sym fi ∙ t) in omega arith
+
+  module _ {n : ℕ} (ft : f ≡ true) (at : n ≡ slotsOf wk) where
+    pub images-slots-hi : n ≤ 1024
+    images-slots-hi = let z = images-shaped wk l (sym fi ∙ ft) in omega arith
+
+    module _ {k : Bool} (th : k ≡ threadsOk (length tr) n) where
+      pub sizes-threads : k ≡ false → false ≡ sizesFit wk l tr
+      unfolding sizesFit
+      sizes-threads e = rw (← fi, ft, ← at, ← th, e)
+
+      pub sizes-notes : {r : Bool} → k ≡ true → r ≡ notesFit tr n → r ≡ sizesFit wk l tr
+      unfolding sizesFit
+      sizes-notes e q = rw (← fi, ft, ← at, ← th, e) q
+
+pub threads-room : (len n : ℕ) {k : Bool} → k ≡ threadsOk len n → k ≡ true → 4 ≤ len
+unfolding threadsOk
+threads-room len n e t = omega (arith, leb-true 1 (threadsOf len n) (and-left (leb 1 (threadsOf len n)) _ (sym e ∙ t)))
+
+-- ---- refusal 2
+pub record Threads (tr : List ℕ) (t : ℕ) : Type 0 where
+  pub room : 4 + t ≤ length tr
+  pub few : t ≤ 16
+
+pub record Fitting (wk l tr : List ℕ) (t : ℕ) : Type 0 where
+  pub working : 3 ≤ length wk
+  pub persistent : 3 ≤ length l
+  pub threads : Threads tr t
+
+pub fitting-threads : {wk l tr : List ℕ} {t : ℕ} → Fitting wk l tr t → Threads tr t
+fitting-threads z = z .threads
+
+module _ (c e : ℕ) where
+  pub open-none : e ≡ 0 → true ≡ openOk c e
+  unfolding openOk
+  open-none h = rw (eq-eqb e 0 h)
+
+  pub open-now : (e ≡ 0 → ⊥) → e ≡ c → true ≡ openOk c e
+  unfolding openOk
+  open-now h k = rw (ne-eqb e 0 h, eq-eqb e c k)
+
+  pub open-before : {a b : ℕ} → (e ≡ 0 → ⊥) → (e ≡ c → ⊥) → a ≡ e → b ≡ c → eqb (a + 1) b ≡ openOk c e
+  unfolding openOk
+  open-before h k p q = rw (ne-eqb e 0 h, ne-eqb e c k, p, q)
+
+pub opens-is : (tr : List ℕ) (t c : ℕ) {r : Bool} → r ≡ every (λ thread. openOk c (openEpoch tr thread)) t → r ≡ opensOk tr t c
+unfolding opensOk
+opens-is tr t c e = e
+
+module _ (wk l tr : List ℕ) (t : ℕ) {c : ℕ} {k : Bool} (at : c ≡ clockOf wk) (ck : k ≡ clockOk c) where
+  pub clocks-bad : k ≡ false → false ≡ clocksFit wk l tr t
+  unfolding clocksFit
+  clocks-bad e = rw (← at, ← ck, e)
+
+  pub clocks-differ : k ≡ true → (clockOf l ≡ c → ⊥) → false ≡ clocksFit wk l tr t
+  unfolding clocksFit
+  clocks-differ e d = rw (← at, ← ck, e, ne-eqb (clockOf l) c d)
+
+  pub clocks-opens : {r : Bool} → k ≡ true → clockOf l ≡ c → r ≡ opensOk tr t c → r ≡ clocksFit wk l tr t
+  unfolding clocksFit
+  clocks-opens e d q = rw (← at, ← ck, e, eq-eqb (clockOf l) c d) q
+
+-- ---- what refusal 1 leaves
+pub record Sizing (wk l tr : List ℕ) (n w t : ℕ) : Type 0 where
+  pub working : Sized wk n w
+  pub persistent : Sized l n w
+  pub notes : Notes tr n t
+  pub some : 1 ≤ t
+  pub last : lastTaken tr < n
+  pub place : placeSlot tr < n
+  pub uid-lo : 1 ≤ nextUidOf tr
+  pub uid-hi : nextUidOf tr ≤ 4000000001
+
+pub sizing : (wk l tr : List ℕ) {r : Bool} → r ≡ sizesFit wk l tr → r ≡ true → Sizing wk l tr (slotsOf wk) (widthOf wk) (threadsOf (length tr) (slotsOf wk))
+unfolding sizesFit imagesFit threadsOk notesFit uidOk
+sizing wk l tr {r} e h =
+    let n = slotsOf wk in
+    let k = threadsOf (length tr) n in
+    let all = sym e ∙ h in
+    let images = and-left (shapeOk wk && (shapeOk l && (eqb (slotsOf l) n && eqb (widthOf l) (widthOf wk)))) _ all in
+    let rest = and-right (shapeOk wk && (shapeOk l && (eqb (slotsOf l) n && eqb (widthOf l) (widthOf wk)))) _ all in
+    let two = and-right (shapeOk wk) _ images in
+    let same = and-right (shapeOk l) _ two in
+    let a : slotsOf l ≡ n = eqb-true _ _ (and-left (eqb (slotsOf l) n) _ same) in
+    let b : widthOf l ≡ widthOf wk = eqb-true _ _ (and-right (eqb (slotsOf l) n) _ same) in
+    let z : Sized wk n (widthOf wk) = shaped wk (and-left (shapeOk wk) _ images) in
+    let y : Sized l (slotsOf l) (widthOf l) = shaped l (and-left (shapeOk l) _ two) in
+    let fits = and-left (leb 1 k && leb k 16) _ rest in
+    let notes = and-right (leb 1 k && leb k 16) _ rest in
+    let more = and-right (ltb (lastTaken tr) n) _ notes in
+    let uid = and-right (ltb (placeSlot tr) n) _ more in
+    let lo : 1 ≤ k = leb-true 1 k (and-left (leb 1 k) _ fits) in
+    let hi : k ≤ 16 = leb-true k 16 (and-right (leb 1 k) _ fits) in
+    record {
+      working = z;
+      persistent = rw (a, b) at y;
+      notes = record { long = omega arith; slots-hi = z .sizes .slots-hi; threads-hi = hi };
+      some = lo;
+      last = ltb-true _ _ (and-left (ltb (lastTaken tr) n) _ notes);
+      place = ltb-true _ _ (and-left (ltb (placeSlot tr) n) _ more);
+      uid-lo = leb-true _ _ (and-left (leb 1 (nextUidOf tr)) _ uid);
+      uid-hi = leb-true _ _ (and-right (leb 1 (nextUidOf tr)) _ uid);
+    }
+
+module _ (wk l tr : List ℕ) {s : Bool} (sf : s ≡ sizesFit wk l tr) where
+  pub entry-sizes : s ≡ false → Refused Sizes ≡ entryCheck (store wk l tr)
+  unfolding entryCheck
+  entry-sizes e = rw (← sf, e)
+
+  module _ (st : s ≡ true) where
+    pub entry-in : (j : ℕ) → j < 3 → j < length wk
+    entry-in j h = let z = sizing wk l tr sf st in omega arith
+
+    module _ {n : ℕ} (at : n ≡ slotsOf wk) where
+      pub entry-room : ThreadRoom (length tr) n
+      entry-room = let z = sizing wk l tr sf st in rw at (record { slots-hi = omega arith; room = omega arith })
+
+      module _ {t : ℕ} (ts : t ≡ threadsOf (length tr) n) where
+        pub entry-fitting : Fitting wk l tr t
+        entry-fitting =
+            let z = sizing wk l tr sf st in
+            rw (ts, at) (record { working = omega arith; persistent = omega arith; threads = record { room = omega arith; few = omega arith } })
+
+        module _ {k : Bool} (ck : k ≡ clocksFit wk l tr t) where
+          pub entry-clock : k ≡ false → Refused Clock ≡ entryCheck (store wk l tr)
+          unfolding entryCheck
+          entry-clock e = let q : clocksFit wk l tr (threads (store wk l tr)) ≡ false = rw (ts, at) at (sym ck ∙ e) in rw (← sf, st, q)
+
+          pub entry-fine : k ≡ true → Accepted ≡ entryCheck (store wk l tr)
+          unfolding entryCheck
+          entry-fine e = let q : clocksFit wk l tr (threads (store wk l tr)) ≡ true = rw (ts, at) at (sym ck ∙ e) in rw (← sf, st, q)
+
+pub ruleset entries = (everies, shape-in, shape-second, images-working, images-persistent, images-slots, images-width, notes-last, notes-place, notes-uid, sizes-images, images-in, images-slots-hi, sizes-threads, sizes-notes, threads-room, fitting-threads, open-none, open-now, open-before, opens-is, clocks-bad, clocks-differ, clocks-opens, entry-sizes, entry-in, entry-room, entry-fitting, entry-clock, entry-fine)

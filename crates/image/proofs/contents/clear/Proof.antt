@@ -1,11 +1,11 @@
 -- `clear`: the loop has cleared j words (`Clearing`).
 use borrow.Author.Needs.{needs}
-use Rattle.transient.specs.Code.{laws}
+use Rattle.image.specs.Code.{laws}
 use Prim.Native.Nat.{_-_}
 use lib.ListN.{length}
-use Rattle.transient.specs.Code.{Clearing}
-use Rattle.transient.proofs.clear.Statement.{statement}
-use Rattle.transient.proofs.clear.Tie as tie
+use Rattle.image.specs.Code.{Clearing}
+use Rattle.image.proofs.contents.clear.Statement.{statement}
+use Rattle.image.proofs.contents.clear.Tie as tie
 
 abbrev Inv-loop : tie.InvT-loop
 Inv-loop l₀ j₀ l j = Clearing l₀ j l

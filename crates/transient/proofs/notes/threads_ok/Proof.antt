@@ -1,8 +1,8 @@
 -- `threads_ok`: each way out is a law.
 use borrow.Author.Needs.{needs}
 use Rattle.transient.specs.Code.{laws}
-use Rattle.transient.proofs.threads_ok.Statement.{statement}
-use Rattle.transient.proofs.threads_ok.Tie as tie
+use Rattle.transient.proofs.notes.threads_ok.Statement.{statement}
+use Rattle.transient.proofs.notes.threads_ok.Tie as tie
 
 pub threads-ok-spec : {M : Type 1} → statement M
 threads-ok-spec =

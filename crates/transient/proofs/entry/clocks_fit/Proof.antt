@@ -1,0 +1,18 @@
+-- `clocks_fit`: each way out is a law.
+use borrow.Author.Needs.{needs}
+use Rattle.transient.specs.Code.{laws}
+use Rattle.transient.specs.Code.{entries}
+use Rattle.transient.proofs.entry.clocks_fit.Statement.{statement}
+use Rattle.transient.proofs.entry.clocks_fit.Tie as tie
+
+pub clocks-fit-spec : {M : Type 1} → statement M
+clocks-fit-spec =
+    tie.close
+    (tie.spec
+    (λ c κs. search (needs, laws, entries))
+    (λ c κs. search (needs, laws, entries))
+    (λ c. search (needs, laws, entries))
+    (λ c. search (needs, laws, entries))
+    (λ c κs. search (needs, laws, entries))
+    (λ c. search (needs, laws, entries))
+    (λ c. search (needs, laws, entries)))

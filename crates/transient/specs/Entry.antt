@@ -1,0 +1,48 @@
+-- 01, "Where each call can decline": refusals 1 and 2 of every call but fresh and recover.
+use Prim.Native.Nat.{ℕ, _+_}
+use mathlib.Core.Bool.{Bool, not, _&&_, _||_}
+use mathlib.Core.List.{List}
+use lib.ListN.{length}
+use lib.Dec.{leb, ltb, eqb}
+use Rattle.search.specs.Some.{every}
+use Rattle.reply.specs.declared.Check.{Check}
+use Rattle.reply.specs.declared.Check.the-variants.{Accepted}
+use Rattle.reply.specs.declared.Refusal.the-variants.{Sizes, Clock}
+use Rattle.reply.specs.Refusals.{refuse}
+use Rattle.image.specs.Layout.{slotsOf, widthOf, clockOf, shapeOk, clockOk}
+use Rattle.transient.specs.Store.{Store}
+use Rattle.transient.specs.Layout.{threadsOf, threadsOk, lastTaken, nextUidOf, placeSlot, openEpoch}
+
+-- 1: "N, W or T outside its range; image length wrong; the images or notes differ in sizes;"
+unfoldable pub imagesFit : List ℕ → List ℕ → Bool
+imagesFit wk l = shapeOk wk && (shapeOk l && (eqb (slotsOf l) (slotsOf wk) && eqb (widthOf l) (widthOf wk)))
+
+unfoldable pub uidOk : ℕ → Bool
+uidOk u = leb 1 u && leb u 4000000001
+
+-- "a note naming a slot not below N, or a next uid outside 1 to 4,000,000,001"
+unfoldable pub notesFit : List ℕ → ℕ → Bool
+notesFit tr n = ltb (lastTaken tr) n && (ltb (placeSlot tr) n && uidOk (nextUidOf tr))
+
+unfoldable pub sizesFit : List ℕ → List ℕ → List ℕ → Bool
+sizesFit wk l tr = imagesFit wk l && (threadsOk (length tr) (slotsOf wk) && notesFit tr (slotsOf wk))
+
+-- 2: "an open epoch that is neither the clock nor one below it"
+unfoldable pub openOk : ℕ → ℕ → Bool
+openOk c e = eqb e 0 || (eqb e c || eqb (e + 1) c)
+
+unfoldable pub opensOk : List ℕ → ℕ → ℕ → Bool
+opensOk tr t c = every (λ thread. openOk c (openEpoch tr thread)) t
+
+-- "clock outside 2 to 4,000,000,000; .. the two clocks unequal"
+unfoldable pub clocksFit : List ℕ → List ℕ → List ℕ → ℕ → Bool
+clocksFit wk l tr t = clockOk (clockOf wk) && (eqb (clockOf l) (clockOf wk) && opensOk tr t (clockOf wk))
+
+-- the threads of a store
+abbrev pub threads : Store → ℕ
+threads st = threadsOf (length (st .transient)) (slotsOf (st .working))
+
+unfoldable pub entryCheck : Store → Check
+entryCheck st =
+    refuse (not (sizesFit (st .working) (st .persistent) (st .transient))) Sizes
+    (refuse (not (clocksFit (st .working) (st .persistent) (st .transient) (threads st))) Clock Accepted)

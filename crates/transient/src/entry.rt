@@ -1,0 +1,120 @@
+// What every call but format and recover judges first: refusals 1 and 2.
+use reply::Check;
+use reply::Refusal;
+ghost use mathlib.Core.Path.{_≡_};
+ghost use Prim.Native.Nat.{_≤_};
+ghost use lib.ListN.{length};
+ghost use Rattle.transient.specs.Store.{store};
+ghost use Rattle.transient.specs.Entry.{imagesFit, uidOk, notesFit, sizesFit, openOk, opensOk, clocksFit, entryCheck};
+ghost use Rattle.transient.specs.Code.{Threads, Fitting};
+
+fn images_fit(working: &[u32], persistent: &[u32]) -> bool
+    ensures { λ r. ⌜ r ≡ imagesFit (now (working .entry)) (now (persistent .entry)) ⌝ }
+{
+    if image::shape::shape_ok(working) {
+        if image::shape::shape_ok(persistent) {
+            if persistent[0] != working[0] {
+                return false;
+            }
+            persistent[1] == working[1]
+        } else {
+            false
+        }
+    } else {
+        false
+    }
+}
+
+fn uid_ok(u: u32) -> bool
+    ensures { λ r. ⌜ r ≡ uidOk u ⌝ }
+{
+    if u < 1 {
+        return false;
+    }
+    u <= 4000000001
+}
+
+fn notes_fit(transient: &[u32], n: usize) -> bool
+    requires { ⌜ 4 ≤ length (now transient) ⌝ }
+    ensures { λ r. ⌜ r ≡ notesFit (now (transient .entry)) n ⌝ }
+{
+    if n <= image::shape::wide(transient[0]) {
+        return false;
+    }
+    if n <= image::shape::wide(transient[3]) {
+        return false;
+    }
+    uid_ok(transient[1])
+}
+
+fn sizes_fit(working: &[u32], persistent: &[u32], transient: &[u32]) -> bool
+    ensures { λ r. ⌜ r ≡ sizesFit (now (working .entry)) (now (persistent .entry)) (now (transient .entry)) ⌝ }
+{
+    if images_fit(working, persistent) {
+        let n = image::shape::wide(working[0]);
+        if crate::notes::threads_ok(transient.len(), n) {
+            notes_fit(transient, n)
+        } else {
+            false
+        }
+    } else {
+        false
+    }
+}
+
+fn open_ok(c: u32, e: u32) -> bool
+    ensures { λ r. ⌜ r ≡ openOk c e ⌝ }
+{
+    if e == 0 {
+        return true;
+    }
+    if e == c {
+        return true;
+    }
+    image::shape::wide(e) + 1 == image::shape::wide(c)
+}
+
+fn opens_ok(transient: &[u32], t: usize, c: u32) -> bool
+    requires { ⌜ Threads (now transient) t ⌝ }
+    ensures { λ r. ⌜ r ≡ opensOk (now (transient .entry)) t c ⌝ }
+{
+    let mut thread = 0;
+    while thread < t {
+        if open_ok(c, transient[4 + thread]) {
+            thread += 1;
+        } else {
+            return false;
+        }
+    }
+    true
+}
+
+fn clocks_fit(working: &[u32], persistent: &[u32], transient: &[u32], t: usize) -> bool
+    requires { ⌜ Fitting (now working) (now persistent) (now transient) t ⌝ }
+    ensures { λ r. ⌜ r ≡ clocksFit (now (working .entry)) (now (persistent .entry)) (now (transient .entry)) t ⌝ }
+{
+    let c = image::shape::clock(working);
+    if image::shape::clock_ok(c) {
+        if persistent[2] != c {
+            return false;
+        }
+        opens_ok(transient, t, c)
+    } else {
+        false
+    }
+}
+
+pub fn check(working: &[u32], persistent: &[u32], transient: &[u32]) -> Check
+    ensures { λ r. ⌜ r ≡ entryCheck (store (now (working .entry)) (now (persistent .entry)) (now (transient .entry))) ⌝ }
+{
+    if sizes_fit(working, persistent, transient) {
+        let t = crate::notes::threads(transient.len(), image::shape::wide(working[0]));
+        if clocks_fit(working, persistent, transient, t) {
+            Check::Accepted
+        } else {
+            Check::Refused(Refusal::Clock)
+        }
+    } else {
+        Check::Refused(Refusal::Sizes)
+    }
+}
