@@ -3,3 +3,4 @@ pub mod First
 pub mod Some
 pub mod Count
 pub mod Largest
+pub mod Ring

@@ -1,0 +1,29 @@
+-- `free_slot`: a search around the table (`Rounding`).
+use borrow.Author.Needs.{needs}
+use Rattle.table.specs.Code.{finds}
+use Prim.Native.Nat.{_-_}
+use Rattle.search.specs.Ring.{Rounding}
+use Rattle.table.specs.Find.{freeAt}
+use Rattle.table.proofs.find.free_slot.Statement.{statement}
+use Rattle.table.proofs.find.free_slot.Tie as tie
+
+abbrev Inv-loop : tie.InvT-loop
+Inv-loop working n last steps k₀ k = Rounding (freeAt working) n last steps k
+
+abbrev μ-loop : tie.MeasureT-loop
+μ-loop working n last steps k₀ k = steps - k
+
+pub free-slot-spec : {M : Type 1} → statement M
+free-slot-spec =
+    tie.close
+    (tie.spec
+    Inv-loop
+    μ-loop
+    (λ c. search (needs, finds))
+    (λ c κs. search (needs, finds))
+    (λ c κs. search (needs, finds))
+    (λ c. search (needs, finds))
+    (λ c. search (needs, finds))
+    (λ c. search (needs, finds))
+    (λ c. search (needs, finds))
+    (λ c. search (needs, finds)))

@@ -1,0 +1,17 @@
+-- `live_at`: each way out is a law.
+use borrow.Author.Needs.{needs}
+use Rattle.table.specs.Code.{finds}
+use Rattle.table.proofs.find.live_at.Statement.{statement}
+use Rattle.table.proofs.find.live_at.Tie as tie
+
+pub live-at-spec : {M : Type 1} → statement M
+live-at-spec =
+    tie.close
+    (tie.spec
+    (λ c κs. search (needs, finds))
+    (λ c κs. search (needs, finds))
+    (λ c κs. search (needs, finds))
+    (λ c κs. search (needs, finds))
+    (λ c. search (needs, finds))
+    (λ c. search (needs, finds))
+    (λ c. search (needs, finds)))

@@ -1,0 +1,32 @@
+-- `look_up`: one walk down (`Descending`).
+use borrow.Author.Needs.{needs}
+use Rattle.table.specs.Code.{finds}
+use Prim.Native.Nat.{_-_}
+use Rattle.table.specs.Find.{newerAt, liveAt}
+use Rattle.table.specs.Code.{Descending}
+use Rattle.table.proofs.find.look_up.Statement.{statement}
+use Rattle.table.proofs.find.look_up.Tie as tie
+
+abbrev Inv-loop : tie.InvT-loop
+Inv-loop working transient n w t key e live₀ s₀ live s = Descending (newerAt working n w key e) (liveAt working transient n w t key) n s live
+
+abbrev μ-loop : tie.MeasureT-loop
+μ-loop working transient n w t key e live₀ s₀ live s = s
+
+pub look-up-spec : {M : Type 1} → statement M
+look-up-spec =
+    tie.close
+    (tie.spec
+    Inv-loop
+    μ-loop
+    (λ c. search (needs, finds))
+    (λ c. search (needs, finds))
+    (λ c κs. search (needs, finds))
+    (λ c. search (needs, finds))
+    (λ c κs. search (needs, finds))
+    (λ c. search (needs, finds))
+    (λ c. search (needs, finds))
+    (λ c. search (needs, finds))
+    (λ c. search (needs, finds))
+    (λ c. search (needs, finds))
+    (λ c. search (needs, finds)))

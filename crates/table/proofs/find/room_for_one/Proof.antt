@@ -1,0 +1,12 @@
+-- `room_for_one`: each way out is a law.
+use borrow.Author.Needs.{needs}
+use Rattle.table.specs.Code.{finds}
+use Rattle.table.proofs.find.room_for_one.Statement.{statement}
+use Rattle.table.proofs.find.room_for_one.Tie as tie
+
+pub room-for-one-spec : {M : Type 1} → statement M
+room-for-one-spec =
+    tie.close
+    (tie.spec
+    (λ c κs. search (needs, finds))
+    (λ c. search (needs, finds)))
