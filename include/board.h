@@ -8,6 +8,8 @@
  *
  * An image of N slots (2 to 1,024) with W words of contents each (2 to 9) has 3 + 3N + WN words:
  * N, W, the clock, then N headers (kind, epoch, uid), then N contents (key, W - 1 value words).
+ * A line is one slot's header, one slot's contents, or the clock word. The memory under persistent
+ * must take a line whole or not at all.
  * The notes of T threads (1 to 16) have 4 + T + 3N words.
  *
  * Every length below is in words, except that of an image's bytes. A call accepts any lengths and
@@ -45,8 +47,9 @@ enum board_recovery {
 /* One step of recovery, after a power cut. What working and transient hold does not matter; only
  * their lengths are judged. Each call checks the persistent image and stores into one header of it
  * at most; flush that header before you call again. Call until BOARD_DONE: at most N calls go on
- * before it. Only that last call fills working and transient. A power cut between or within these
- * calls does no harm: begin again. An image that is accepted once is accepted to the end.
+ * before it. Only that last call fills working and transient. A power cut between these calls, or
+ * in one before or after its store, does no harm: begin again. An image that is accepted once is
+ * accepted to the end.
  *
  *     uint64_t r;
  *     while ((r = board_recover(w, wn, p, pn, t, tn)) == BOARD_WENT_ON)

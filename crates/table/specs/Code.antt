@@ -11,7 +11,7 @@ use native.Mathlib.Omega.{arith}
 use native.Mathlib.Numerals.{add-one}
 use native.Mathlib.Nat.{eq-or-lt-of-le}
 use Rattle.search.specs.Bools.{cases, tests}
-use Rattle.search.specs.First.{first, firstOf, found, loops as firsts}
+use Rattle.search.specs.First.{first, firstOf, found-first, loops as firsts}
 use Rattle.search.specs.Some.{some, some-at, none-some}
 use Rattle.search.specs.Count.{count}
 use Rattle.search.specs.Ring.{ringSlot, firstRound, ring-ahead, ring-round, ring-below, round-found, round-one, round-another, round-alone, rounds}
@@ -231,6 +231,27 @@ module _ (wk : List ℕ) (n last : ℕ) {f : Found} (z : Rooms wk n last) (e : f
     pub room-alone : g ≡ Nothing → Nothing ≡ room wk n last 2
     unfolding room freeCount
     room-alone b = rw (round-alone (freeAt wk) n s (free-s .0) (free-s .1) (sym o ∙ b))
+
+-- a slot found is one of the table
+pub room-below : (wk : List ℕ) (n last k s : ℕ) → last < n → room wk n last k ≡ At s → s < n
+unfolding room freeCount
+room-below wk n last k s h e =
+    ⊎-elim
+    (λ (t : leb k (count (freeAt wk) n) ≡ true). let q : firstRound (freeAt wk) n last n ≡ At s = rw t at e in round-found (freeAt wk) n last n s h (omega arith) q .0)
+    (λ (u : leb k (count (freeAt wk) n) ≡ false). let q : Nothing ≡ At s = rw u at e in let z : _≡_ {A = ℕ} 0 1 = cc in absurd (omega arith))
+    (cases (leb k (count (freeAt wk) n)))
+
+pub lookup-below : (wk tr : List ℕ) (n w t key e s : ℕ) → lookup wk tr n w t key e ≡ Live s → s < n
+unfolding lookup liveSlot
+lookup-below wk tr n w t key e s h =
+    ⊎-elim
+    (λ (y : newer wk n w key e ≡ true). let q : Newer ≡ Live s = rw y at h in let z : _≡_ {A = ℕ} 0 1 = cc in absurd (omega arith))
+    (λ (y : newer wk n w key e ≡ false). let q : lookedUp (firstOf (liveAt wk tr n w t key) n) ≡ Live s = rw y at h in go (firstOf (liveAt wk tr n w t key) n) refl q)
+    (cases (newer wk n w key e))
+  where
+    go : (f : Found) → firstOf (liveAt wk tr n w t key) n ≡ f → lookedUp f ≡ Live s → s < n
+    go (At u) q r = let z : u ≡ s = cc in let b : u < n = found-first (liveAt wk tr n w t key) n q .below in omega arith
+    go Nothing q r = let z : _≡_ {A = ℕ} 0 1 = cc in absurd (omega arith)
 
 -- ---- filling
 pub record SlotValue (l : List ℕ) (n w s : ℕ) (value : List ℕ) : Type 0 where
