@@ -1,0 +1,20 @@
+-- `begin`: each way out is a law.
+use borrow.Author.Needs.{needs}
+use Rattle.changes.specs.Code.{opening}
+use Rattle.changes.proofs.open.begin.Statement.{statement}
+use Rattle.changes.proofs.open.begin.Tie as tie
+
+pub begin-spec : {M : Type 1} → statement M
+begin-spec =
+    tie.close
+    (tie.spec
+    (λ c κs. search (needs, opening))
+    (λ c. search (needs, opening))
+    (λ c. search (needs, opening))
+    (λ c κs. search (needs, opening))
+    (λ c κs. search (needs, opening))
+    (λ c κs. search (needs, opening))
+    (λ c. search (needs, opening))
+    (λ c. search (needs, opening))
+    (λ c. search (needs, opening))
+    (λ c. search (needs, opening)))

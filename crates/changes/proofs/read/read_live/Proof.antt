@@ -1,0 +1,22 @@
+-- `read_live`: each way out is a law.
+use borrow.Author.Needs.{needs}
+use Rattle.changes.specs.ReadCode.{reads}
+use Rattle.changes.proofs.read.read_live.Statement.{statement}
+use Rattle.changes.proofs.read.read_live.Tie as tie
+
+pub read-live-spec : {M : Type 1} → statement M
+read-live-spec =
+    tie.close
+    (tie.spec
+    (λ c κs. search (needs, reads))
+    (λ c. search (needs, reads))
+    (λ c. search (needs, reads))
+    (λ c. search (needs, reads))
+    (λ c. search (needs, reads))
+    (λ c κs. search (needs, reads))
+    (λ c. search (needs, reads))
+    (λ c. search (needs, reads))
+    (λ c. search (needs, reads))
+    (λ c. search (needs, reads))
+    (λ c. search (needs, reads))
+    (λ c. search (needs, reads)))

@@ -1,0 +1,29 @@
+-- 01: "A fresh store has clock 2, every other word after word 1 zero, next uid 1, nothing open, retired, waiting or underway."
+use Prim.Native.Nat.{ℕ, _-_}
+use mathlib.Core.Bool.{Bool, cond, _&&_}
+use mathlib.Core.List.{List}
+use lib.ListN.{length, set, replicate}
+use lib.Dec.{eqb}
+use Rattle.reply.specs.declared.Check.the-variants.{Accepted, Refused}
+use Rattle.reply.specs.declared.Refusal.the-variants.{Sizes}
+use Rattle.image.specs.Layout.{imageWords, sizesOk}
+use Rattle.transient.specs.Store.{Store, store}
+use Rattle.transient.specs.Layout.{threadsOk, blank}
+use Rattle.changes.specs.Changed.{Answer}
+
+unfoldable pub freshImage : ℕ → ℕ → List ℕ
+freshImage n w = set (set (set (replicate (imageWords n w) 0) 0 n) 1 w) 2 2
+
+-- "fresh and recover judge only the lengths of what they fill"
+unfoldable pub formatFits : ℕ → ℕ → ℕ → ℕ → ℕ → Bool
+formatFits working persistent transient n w =
+    sizesOk n w && (eqb working (imageWords n w) && (eqb persistent (imageWords n w) && threadsOk transient n))
+
+unfoldable pub freshStore : ℕ → ℕ → ℕ → Store
+freshStore transient n w = store (freshImage n w) (freshImage n w) (blank transient (n - 1) 1)
+
+unfoldable pub format : Store → ℕ → ℕ → Answer
+format st n w =
+    cond (formatFits (length (st .working)) (length (st .persistent)) (length (st .transient)) n w)
+    (record { reply = Accepted; store = freshStore (length (st .transient)) n w })
+    (record { reply = Refused Sizes; store = st })

@@ -1,0 +1,11 @@
+pub mod Changed
+pub mod Open
+pub mod Job
+pub mod New
+pub mod Set
+pub mod Delete
+pub mod Read
+pub mod Format
+pub mod Code
+pub mod ReadCode
+pub mod FormatCode
