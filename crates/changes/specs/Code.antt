@@ -54,6 +54,18 @@ pub record Entered (wk tr : List ℕ) (n w t : ℕ) : Type 0 where
   pub uid-lo : 1 ≤ nextUidOf tr
   pub uid-hi : nextUidOf tr ≤ 4000000001
 
+-- what a call that has judged refusals 1 and 2 hands on
+pub record Passed (wk tr : List ℕ) : Type 0 where
+  pub sizable : Sizable wk tr
+  pub inside : Entered wk tr (slotsOf wk) (widthOf wk) (threadsOf (length tr) (slotsOf wk))
+
+pub passed-sizable : {wk tr : List ℕ} → Passed wk tr → Sizable wk tr
+passed-sizable z = z .sizable
+
+pub passed-entered : {wk tr : List ℕ} {z : sizes-type.Sizes} → Passed wk tr → z ≡ sizesOf wk tr → Entered wk tr (z .n) (z .w) (z .t)
+unfolding sizesOf
+passed-entered p e = rw e (p .inside)
+
 entry-sizing : (wk l tr : List ℕ) → entryCheck (store wk l tr) ≡ Accepted → Sizing wk l tr (slotsOf wk) (widthOf wk) (threadsOf (length tr) (slotsOf wk))
 unfolding entryCheck
 entry-sizing wk l tr a =
@@ -71,6 +83,19 @@ module _ (wk l tr : List ℕ) {k : Check} (c : k ≡ entryCheck (store wk l tr))
       let y = entry-sizing wk l tr (sym c ∙ a) in
       rw e (record { table = record { working = y .working; notes = y .notes }; last = y .last; uid-lo = y .uid-lo; uid-hi = y .uid-hi })
 
+  -- the same at the sizes that the store itself has
+  pub entry-passed : Passed wk tr
+  entry-passed =
+      let y = entry-sizing wk l tr (sym c ∙ a) in
+      record {
+      sizable = entry-sizable;
+      inside = record { table = record { working = y .working; notes = y .notes }; last = y .last; uid-lo = y .uid-lo; uid-hi = y .uid-hi };
+      }
+
+  pub passes : (call : List ℕ → List ℕ → ℕ → ℕ → ℕ → Changed) {q : Check} {wk′ tr′ : List ℕ} → changed q wk′ tr′ ≡ call wk tr (slotsOf wk) (widthOf wk) (threadsOf (length tr) (slotsOf wk))
+      → answer q wk′ l tr′ ≡ onStore (store wk l tr) call
+  passes call h = rw (← c, a) (ap (λ (x : Changed). answer (x .reply) (x .working) l (x .transient)) h)
+
   pub goes : (call : List ℕ → List ℕ → ℕ → ℕ → ℕ → Changed) {z : sizes-type.Sizes} {q : Check} {wk′ tr′ : List ℕ} → z ≡ sizesOf wk tr
       → changed q wk′ tr′ ≡ call wk tr (z .n) (z .w) (z .t) → answer q wk′ l tr′ ≡ onStore (store wk l tr) call
   unfolding sizesOf
@@ -86,6 +111,17 @@ declined wk l tr call c a = rw (← c, a)
 pub record Opened (wk tr : List ℕ) (n w t : ℕ) (value : List ℕ) : Type 0 where
   pub entered : Entered wk tr n w t
   pub words : length value ≡ w - 1
+
+-- with a uid to give
+pub record Ready (wk tr : List ℕ) (n w t : ℕ) (value : List ℕ) : Type 0 where
+  pub opened : Opened wk tr n w t value
+  pub uid-top : nextUidOf tr ≤ 4000000000
+
+pub ready-of : {wk tr value : List ℕ} {n w t u : ℕ} → Opened wk tr n w t value → u ≡ nextUidOf tr → u ≤ 4000000000 → Ready wk tr n w t value
+ready-of z e h = record { opened = z; uid-top = omega (arith, e) }
+
+pub ready-entered : {wk tr value : List ℕ} {n w t : ℕ} → Ready wk tr n w t value → Entered wk tr n w t
+ready-entered z = z .opened .entered
 
 pub record Reached (wk tr : List ℕ) (n w t s : ℕ) : Type 0 where
   pub entered : Entered wk tr n w t
@@ -155,6 +191,12 @@ reached-notes z = entered-notes (z .entered)
 pub reached-rooms : {wk tr : List ℕ} {n w t s last : ℕ} → Reached wk tr n w t s → last ≡ lastTaken tr → Rooms wk n last
 reached-rooms z e = entered-rooms (z .entered) e
 
+pub held-entered : {wk tr value : List ℕ} {n w t s : ℕ} → Held wk tr n w t s value → Entered wk tr n w t
+held-entered z = z .reached .entered
+
+pub reached-entered : {wk tr : List ℕ} {n w t s : ℕ} → Reached wk tr n w t s → Entered wk tr n w t
+reached-entered z = z .entered
+
 pub held-reached : {wk tr value : List ℕ} {n w t s : ℕ} → Held wk tr n w t s value → Reached wk tr n w t s
 held-reached z = z .reached
 
@@ -181,18 +223,21 @@ looked-held wk tr value n w t key e {s} z c a =
 pub looked-reached : (wk tr : List ℕ) (n w t key e : ℕ) {s : ℕ} {k : Lookup} → Entered wk tr n w t → k ≡ lookup wk tr n w t key e → k ≡ Live s → Reached wk tr n w t s
 looked-reached wk tr n w t key e {s} z c a = record { entered = z; within = lookup-below wk tr n w t key e s (sym c ∙ a) }
 
-module _ (wk tr : List ℕ) (n w t k : ℕ) {last f : ℕ} {g : Found} (at : last ≡ lastTaken tr) (c : g ≡ room wk n last k) (a : g ≡ At f) where
+module _ (wk tr : List ℕ) (n w t k : ℕ) {f : ℕ} {g : Found} (c : g ≡ room wk n (lastTaken tr) k) (a : g ≡ At f) where
   found-in : Entered wk tr n w t → Reached wk tr n w t f
-  found-in z = record { entered = z; within = room-below wk n last k f (omega (arith, z .last, at)) (sym c ∙ a) }
+  found-in z = record { entered = z; within = room-below wk n (lastTaken tr) k f (z .last) (sym c ∙ a) }
 
-  pub room-placed : {value : List ℕ} {u : ℕ} → Opened wk tr n w t value → u ≡ nextUidOf tr → u ≤ 4000000000 → Placed wk tr n w t f value
-  room-placed z e h = record { held = record { reached = found-in (z .entered); words = z .words }; uid-top = omega (arith, e) }
+  pub room-placed : {value : List ℕ} → Ready wk tr n w t value → Placed wk tr n w t f value
+  room-placed z = record { held = record { reached = found-in (z .opened .entered); words = z .opened .words }; uid-top = z .uid-top }
 
   pub room-superseding : {value : List ℕ} {s : ℕ} → Held wk tr n w t s value → Superseding wk tr n w t s f value
   room-superseding z = record { from = z .reached; to = record { reached = found-in (z .reached .entered); words = z .words } }
 
   pub room-covering : {s : ℕ} → Reached wk tr n w t s → Covering wk tr n w t s f
   room-covering z = record { from = z; to = found-in (z .entered) }
+
+pub room-is : (wk tr : List ℕ) (n k : ℕ) {last : ℕ} {r : Found} → last ≡ lastTaken tr → r ≡ room wk n last k → r ≡ room wk n (lastTaken tr) k
+room-is wk tr n k e h = rw e at h
 
 -- the slot f holds what supersedes slot s
 unfoldable pub supersededAt : List ℕ → List ℕ → ℕ → ℕ → ℕ → ℕ → ℕ → ℕ → Header → List ℕ → Changed
@@ -250,4 +295,8 @@ module _ (wk l tr : List ℕ) (thread : ℕ) {k : Check} (c : k ≡ entryCheck (
 
 pub ruleset sizing-laws = (sizable-room, sizes-made, entry-sizable, entry-entered)
 
+pub ruleset passing = (entry-passed, passed-sizable, passed-entered)
+
 pub ruleset opening = (sizing-laws, thread-of, entered-head, begin-thread, begin-open, begin-done, end-thread, end-none, end-done, begin-declines, begin-goes, end-declines, end-goes)
+
+pub ruleset rooming = (entered-notes, entered-rooms, room-is)

@@ -2,4 +2,5 @@
 pub mod format;
 pub mod open;
 pub mod read;
+pub mod room;
 pub mod sizes;

@@ -1,0 +1,22 @@
+-- `delete`: each way out is a law.
+use borrow.Author.Needs.{needs}
+use Rattle.change_delete.specs.Code.{laws}
+use Rattle.change_delete.proofs.delete.Statement.{statement}
+use Rattle.change_delete.proofs.delete.Tie as tie
+
+pub delete-spec : {M : Type 1} → statement M
+delete-spec =
+    tie.close
+    (tie.spec
+    (λ c κs. search (needs, laws))
+    (λ c. search (needs, laws))
+    (λ c. search (needs, laws))
+    (λ c κs. search (needs, laws))
+    (λ c κs. search (needs, laws))
+    (λ c κs. search (needs, laws))
+    (λ c. search (needs, laws))
+    (λ c. search (needs, laws))
+    (λ c. search (needs, laws))
+    (λ c. search (needs, laws))
+    (λ c. search (needs, laws))
+    (λ c. search (needs, laws)))

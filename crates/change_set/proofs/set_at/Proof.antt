@@ -1,0 +1,19 @@
+-- `set_at`: each way out is a law.
+use borrow.Author.Needs.{needs}
+use Rattle.change_set.specs.Code.{laws}
+use Rattle.change_set.proofs.set_at.Statement.{statement}
+use Rattle.change_set.proofs.set_at.Tie as tie
+
+pub set-at-spec : {M : Type 1} → statement M
+set-at-spec =
+    tie.close
+    (tie.spec
+    (λ c κs. search (needs, laws))
+    (λ c κs. search (needs, laws))
+    (λ c κs. search (needs, laws))
+    (λ c. search (needs, laws))
+    (λ c. search (needs, laws))
+    (λ c. search (needs, laws))
+    (λ c. search (needs, laws))
+    (λ c. search (needs, laws))
+    (λ c. search (needs, laws)))

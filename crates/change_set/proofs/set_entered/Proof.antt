@@ -1,0 +1,16 @@
+-- `set_entered`: each way out is a law.
+use borrow.Author.Needs.{needs}
+use Rattle.change_set.specs.Code.{laws}
+use Rattle.change_set.proofs.set_entered.Statement.{statement}
+use Rattle.change_set.proofs.set_entered.Tie as tie
+
+pub set-entered-spec : {M : Type 1} → statement M
+set-entered-spec =
+    tie.close
+    (tie.spec
+    (λ c κs. search (needs, laws))
+    (λ c κs. search (needs, laws))
+    (λ c κs. search (needs, laws))
+    (λ c. search (needs, laws))
+    (λ c. search (needs, laws))
+    (λ c. search (needs, laws)))

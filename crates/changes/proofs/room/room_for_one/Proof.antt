@@ -1,0 +1,13 @@
+-- `room_for_one`: each way out is a law.
+use borrow.Author.Needs.{needs}
+use Rattle.changes.specs.Code.{rooming}
+use Rattle.changes.proofs.room.room_for_one.Statement.{statement}
+use Rattle.changes.proofs.room.room_for_one.Tie as tie
+
+pub room-for-one-spec : {M : Type 1} → statement M
+room-for-one-spec =
+    tie.close
+    (tie.spec
+    (λ c κs. search (needs, rooming))
+    (λ c κs. search (needs, rooming))
+    (λ c. search (needs, rooming)))
