@@ -29,14 +29,68 @@ extern "C" {
 
 /* Why a call declines. A call that declines for several reasons gives the lowest number. */
 enum board_refusal {
-    BOARD_SIZES = 1,     /* N, W or T out of range, or a length that does not fit them */
-    BOARD_CLOCK = 2,     /* the clock is not between 2 and 4,000,000,000 */
-    BOARD_BAD_SLOT = 3,  /* a header neither free nor proper, or a surviving job with key 0 */
-    BOARD_DUPLICATE = 4  /* two kept slots of one uid and epoch, or two surviving jobs of one key */
+    BOARD_SIZES = 1,         /* N, W or T out of range, a length that does not fit them, or notes that
+                                name no slot */
+    BOARD_CLOCK = 2,         /* the clock is not between 2 and 4,000,000,000, the images' clocks differ,
+                                or an operation is open in neither the clock's epoch nor the one before */
+    BOARD_BAD_SLOT = 3,      /* a header neither free nor proper, or a surviving job with key 0 */
+    BOARD_DUPLICATE = 4,     /* two kept slots of one uid and epoch, or two surviving jobs of one key */
+    BOARD_NO_THREAD = 5,     /* the thread number is not below T */
+    BOARD_ALREADY_OPEN = 6,  /* the thread has an operation open */
+    BOARD_NOT_OPEN = 7,      /* the thread has no operation open */
+    BOARD_BAD_ARGUMENT = 8,  /* key 0, or a value that is not W - 1 words long */
+    BOARD_NEWER = 9,         /* an operation of a later epoch has changed this key */
+    BOARD_NO_JOB = 10,       /* no live job of that key */
+    BOARD_JOB_EXISTS = 11,   /* a live job of that key */
+    BOARD_NO_UID = 12,       /* no uid is left to give */
+    BOARD_FULL = 13          /* too few free slots */
 };
 
 /* A 64-bit answer of BOARD_REFUSED or more is a refusal: BOARD_REFUSED plus its number. */
 #define BOARD_REFUSED UINT64_C(4294967296)
+
+/* The words to allocate for an image of N slots of W words of contents, and for the notes of T
+ * threads; 0 where a size is out of range. */
+size_t board_image_words(uint32_t slots, uint32_t words);
+size_t board_transient_words(uint32_t slots, uint32_t threads);
+
+/* Makes a fresh store of these sizes, whatever the memory holds: clock 2, no job. It answers 0, or
+ * BOARD_SIZES and changes nothing. Flush the persistent image before you use the store; a power cut
+ * while it is made is not covered. */
+uint32_t board_format(uint32_t *working, size_t working_words,
+                      uint32_t *persistent, size_t persistent_words,
+                      uint32_t *transient, size_t transient_words,
+                      uint32_t slots, uint32_t words);
+
+/* Each call below answers 0 for accepted, else the number of its refusal. It stores nothing into the
+ * persistent image, so there is nothing to flush.
+ *
+ * Begin opens an operation of the thread in the clock's epoch, end closes it. New, set and delete
+ * belong to the open operation of their thread: new makes a job, set gives a live job another value,
+ * delete ends it. A value has W - 1 words. New and set need two free slots when they take one, delete
+ * needs one, so that a full board can still be emptied. */
+uint32_t board_begin(const uint32_t *working, size_t working_words,
+                     const uint32_t *persistent, size_t persistent_words,
+                     uint32_t *transient, size_t transient_words, uint32_t thread);
+
+uint32_t board_end(const uint32_t *working, size_t working_words,
+                   const uint32_t *persistent, size_t persistent_words,
+                   uint32_t *transient, size_t transient_words, uint32_t thread);
+
+uint32_t board_new(uint32_t *working, size_t working_words,
+                   const uint32_t *persistent, size_t persistent_words,
+                   uint32_t *transient, size_t transient_words,
+                   uint32_t thread, uint32_t key, const uint32_t *value, size_t value_words);
+
+uint32_t board_set(uint32_t *working, size_t working_words,
+                   const uint32_t *persistent, size_t persistent_words,
+                   uint32_t *transient, size_t transient_words,
+                   uint32_t thread, uint32_t key, const uint32_t *value, size_t value_words);
+
+uint32_t board_delete(uint32_t *working, size_t working_words,
+                      const uint32_t *persistent, size_t persistent_words,
+                      uint32_t *transient, size_t transient_words,
+                      uint32_t thread, uint32_t key);
 
 /* What one recover call did. */
 enum board_recovery {

@@ -1,5 +1,5 @@
 -- What the proofs of the exported calls cite.
-use Prim.Native.Nat.{ℕ, _/_}
+use Prim.Native.Nat.{ℕ, _+_, _*_, _/_, _≤_, _<_}
 use mathlib.Core.Path.{_≡_, ap, _∙_}
 use mathlib.Core.Bool.{Bool, true, false}
 use mathlib.Core.List.{List}
@@ -7,14 +7,21 @@ use lib.ListN.{length, take}
 use Rattle.reply.specs.declared.Refusal.{Refusal}
 use Rattle.reply.specs.declared.Refusal.the-variants.{Sizes}
 use Rattle.reply.specs.Refusals.{declinedNumber}
-use Rattle.image.specs.Layout.{stored}
+use borrow.Author.Tests.{le-leb, lt-leb}
+use native.Mathlib.Omega.{arith}
+use mir.Val.{Fits}
+use mir.Syntax.{w64}
+use Rattle.reply.specs.declared.Check.{Check}
+use Rattle.image.specs.Layout.{stored, sizesOk, imageWords}
+use Rattle.image.specs.Code.{sizes-true}
+use Rattle.changes.specs.Changed.{Answer, answer, replyNumber}
 use Rattle.image.specs.Bytes.{wordsOf}
 use Rattle.transient.specs.Store.{Store, store}
 use Rattle.acceptance.specs.Questions.{Buffered, prefix-is, decoding, bytesOk, clockAnswer, survivorsAnswer, clockOfBytes, survivorsOfBytes}
 use Rattle.recovery.specs.Recover.{Recovered, recovered, recover, recoveryNumber}
 use Rattle.recovery.specs.declared.Recovery.{Recovery}
 use Rattle.recovery.specs.declared.Recovery.the-variants.{WentOn, Done, Declined}
-use Rattle.board.specs.Calls.{Called, called, recoveredCall, recoverCall}
+use Rattle.board.specs.Calls.{Called, called, recoveredCall, recoverCall, answerCall, imageLength, transientLength}
 
 -- ---- recover
 module _ (st : Store) {r : Recovery} {w p t : List ℕ} (e : recovered r w p t ≡ recover st) where
@@ -32,6 +39,47 @@ module _ (st : Store) {r : Recovery} {w p t : List ℕ} (e : recovered r w p t �
   recover-declined {d} q u =
       let z : called (declinedNumber d) w p t ≡ recoverCall st = rw q at whole in
       rw u z
+
+-- ---- calls on jobs
+pub answer-call : (a : Answer) {q : Check} {w p t : List ℕ} {r : ℕ} → answer q w p t ≡ a → r ≡ replyNumber q → called r w p t ≡ answerCall a
+unfolding answerCall
+answer-call a {q} {w} {p} {t} e h = rw h (ap (λ (x : Answer). record { number = replyNumber (x .reply); store = x .store }) e)
+
+-- ---- lengths
+module _ (slots words : ℕ) {n w : ℕ} {s : Bool} (ne : n ≡ slots) (we : w ≡ words) (ok : s ≡ sizesOk n w) where
+  pub image-length : {k : ℕ} → s ≡ true → k ≡ imageWords n w → k ≡ imageLength slots words
+  unfolding imageLength
+  image-length t e = rw (← ne, ← we, ← ok, t) e
+
+  pub image-none : s ≡ false → 0 ≡ imageLength slots words
+  unfolding imageLength
+  image-none t = rw (← ne, ← we, ← ok, t)
+
+module _ (slots threads : ℕ) {n t : ℕ} {s : Bool} (ne : n ≡ slots) (te : t ≡ threads) (ok : s ≡ sizesOk n 2) where
+  pub notes-none : s ≡ false → 0 ≡ transientLength slots threads
+  unfolding transientLength
+  notes-none f = rw (← ne, ← ok, f)
+
+  pub notes-few : s ≡ true → t < 1 → 0 ≡ transientLength slots threads
+  unfolding transientLength
+  notes-few f h = rw (← ne, ← te, ← ok, f, lt-leb 1 t h)
+
+  pub notes-many : s ≡ true → 1 ≤ t → 16 < t → 0 ≡ transientLength slots threads
+  unfolding transientLength
+  notes-many f h k = rw (← ne, ← te, ← ok, f, le-leb 1 t h, lt-leb t 16 k)
+
+  pub notes-length : s ≡ true → 1 ≤ t → t ≤ 16 → 4 + t + 3 * n ≡ transientLength slots threads
+  unfolding transientLength
+  notes-length f h k = rw (← ne, ← te, ← ok, f, le-leb 1 t h, le-leb t 16 k)
+
+pub notes-slots : (n : ℕ) {s : Bool} → s ≡ sizesOk n 2 → s ≡ true → n ≤ 1024
+notes-slots n e t = sizes-true n 2 e t .slots-hi
+
+pub notes-fit : (n : ℕ) {s : Bool} → s ≡ sizesOk n 2 → s ≡ true → Fits w64 (3 * n)
+notes-fit n e t = omega (arith, sizes-true n 2 e t .slots-hi)
+
+pub notes-whole : (n t : ℕ) {s : Bool} → s ≡ sizesOk n 2 → s ≡ true → t ≤ 16 → Fits w64 (4 + t + 3 * n)
+notes-whole n t e f h = omega (arith, sizes-true n 2 e f .slots-hi)
 
 -- ---- the questions
 module _ (bytes words : List ℕ) {words′ : List ℕ} (z : Buffered bytes words) (d : words′ ≡ stored words 0 (wordsOf bytes) (length bytes / 4)) where
@@ -58,4 +106,4 @@ module _ (bytes : List ℕ) {b : Bool} {r : ℕ} (e : b ≡ bytesOk (length byte
   unfolding survivorsOfBytes
   survivors-refused t h = rw (← e, t) h
 
-pub ruleset laws = (recover-on, recover-done, recover-declined, decoding, clock-of, survivors-of, clock-bytes, clock-refused, survivors-bytes, survivors-refused)
+pub ruleset laws = (answer-call, sizes-true, image-length, image-none, notes-none, notes-few, notes-many, notes-length, notes-fit, notes-whole, recover-on, recover-done, recover-declined, decoding, clock-of, survivors-of, clock-bytes, clock-refused, survivors-bytes, survivors-refused)

@@ -1,3 +1,5 @@
 // The public calls, for C: include/board.h is their C view. None requires anything: bad input is refused.
+pub mod jobs;
+pub mod lengths;
 pub mod questions;
 pub mod recover;

@@ -1,9 +1,9 @@
 // Delete: a job ends, at once or behind an anti-payload.
 use image::header::Header;
-use search::Found;
-use table::find::Lookup;
 use reply::Check;
 use reply::Refusal;
+use search::Found;
+use table::find::Lookup;
 ghost use mathlib.Core.Path.{_≡_};
 ghost use Rattle.transient.specs.Store.{store};
 ghost use Rattle.transient.specs.Layout.{lastTaken};
@@ -18,7 +18,15 @@ ghost use Prim.Native.Nat.{_-_};
 ghost use lib.ListN.{replicate};
 
 // An ALLOC of this epoch: no other epoch knows it, so its slot is free at once.
-fn free_now(working: &mut [u32], transient: &mut [u32], n: usize, w: usize, t: usize, e: u32, s: usize) -> Check
+fn free_now(
+    working: &mut [u32],
+    transient: &mut [u32],
+    n: usize,
+    w: usize,
+    t: usize,
+    e: u32,
+    s: usize,
+) -> Check
     requires { ⌜ Reached (now working) (now transient) n w t s ⌝ }
     ensures { λ r. ⌜ changed r (now (working .exit)) (now (transient .exit)) ≡ freedAt (now (working .entry)) (now (transient .entry)) n t e s ⌝ }
 {
@@ -28,7 +36,15 @@ fn free_now(working: &mut [u32], transient: &mut [u32], n: usize, w: usize, t: u
 }
 
 // An UPDATE of this epoch becomes the anti-payload, contents kept.
-fn turn(working: &mut [u32], transient: &mut [u32], n: usize, w: usize, t: usize, e: u32, s: usize) -> Check
+fn turn(
+    working: &mut [u32],
+    transient: &mut [u32],
+    n: usize,
+    w: usize,
+    t: usize,
+    e: u32,
+    s: usize,
+) -> Check
     requires { ⌜ Reached (now working) (now transient) n w t s ⌝ }
     ensures { λ r. ⌜ changed r (now (working .exit)) (now (transient .exit)) ≡ turned (now (working .entry)) (now (transient .entry)) n t e s ⌝ }
 {
@@ -180,7 +196,15 @@ pub fn delete(
         Check::Refused(r) => Check::Refused(r),
         Check::Accepted => {
             let z = changes::sizes::read_sizes(working, transient);
-            delete_sized(working, transient, z.n, z.w, z.t, image::shape::wide(thread), key)
+            delete_sized(
+                working,
+                transient,
+                z.n,
+                z.w,
+                z.t,
+                image::shape::wide(thread),
+                key,
+            )
         }
     }
 }

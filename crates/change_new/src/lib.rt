@@ -1,9 +1,9 @@
 // New: a job that was not there.
 use image::header::Header;
-use search::Found;
-use table::find::Lookup;
 use reply::Check;
 use reply::Refusal;
+use search::Found;
+use table::find::Lookup;
 ghost use mathlib.Core.Path.{_≡_};
 ghost use Rattle.transient.specs.Store.{store};
 ghost use lib.ListN.{length};
@@ -122,12 +122,27 @@ fn new_sized(
     new_open(working, transient, n, w, t, e, key, value)
 }
 
-fn new_entered(working: &mut [u32], transient: &mut [u32], thread: u32, key: u32, value: &[u32]) -> Check
+fn new_entered(
+    working: &mut [u32],
+    transient: &mut [u32],
+    thread: u32,
+    key: u32,
+    value: &[u32],
+) -> Check
     requires { ⌜ Passed (now working) (now transient) ⌝ }
     ensures { λ r. ⌜ changed r (now (working .exit)) (now (transient .exit)) ≡ made (now (working .entry)) (now (transient .entry)) (slotsOf (now (working .entry))) (widthOf (now (working .entry))) (threadsOf (length (now (transient .entry))) (slotsOf (now (working .entry)))) thread key (now (value .entry)) ⌝ }
 {
     let z = changes::sizes::read_sizes(working, transient);
-    new_sized(working, transient, z.n, z.w, z.t, image::shape::wide(thread), key, value)
+    new_sized(
+        working,
+        transient,
+        z.n,
+        z.w,
+        z.t,
+        image::shape::wide(thread),
+        key,
+        value,
+    )
 }
 
 // Makes a job in the open operation of the thread.

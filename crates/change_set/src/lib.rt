@@ -1,9 +1,9 @@
 // Set: another value for a live job.
 use image::header::Header;
-use search::Found;
-use table::find::Lookup;
 use reply::Check;
 use reply::Refusal;
+use search::Found;
+use table::find::Lookup;
 ghost use mathlib.Core.Path.{_≡_};
 ghost use Rattle.transient.specs.Store.{store};
 ghost use lib.ListN.{length};
@@ -12,7 +12,6 @@ ghost use Rattle.transient.specs.Layout.{lastTaken, threadsOf};
 ghost use Rattle.table.specs.Find.{room};
 ghost use Rattle.changes.specs.Job.{superseded};
 ghost use Rattle.changes.specs.Changed.{changed, answer};
-
 ghost use Rattle.changes.specs.Set.{rewritten, updated, setAt, setOpened, replaced, set};
 ghost use Rattle.changes.specs.Code.{Passed, Entered, Opened, Held, supersededAt, Superseding};
 ghost use mathlib.Core.List.{_∷_};
@@ -170,12 +169,27 @@ fn set_sized(
     set_open(working, transient, n, w, t, e, key, value)
 }
 
-fn set_entered(working: &mut [u32], transient: &mut [u32], thread: u32, key: u32, value: &[u32]) -> Check
+fn set_entered(
+    working: &mut [u32],
+    transient: &mut [u32],
+    thread: u32,
+    key: u32,
+    value: &[u32],
+) -> Check
     requires { ⌜ Passed (now working) (now transient) ⌝ }
     ensures { λ r. ⌜ changed r (now (working .exit)) (now (transient .exit)) ≡ replaced (now (working .entry)) (now (transient .entry)) (slotsOf (now (working .entry))) (widthOf (now (working .entry))) (threadsOf (length (now (transient .entry))) (slotsOf (now (working .entry)))) thread key (now (value .entry)) ⌝ }
 {
     let z = changes::sizes::read_sizes(working, transient);
-    set_sized(working, transient, z.n, z.w, z.t, image::shape::wide(thread), key, value)
+    set_sized(
+        working,
+        transient,
+        z.n,
+        z.w,
+        z.t,
+        image::shape::wide(thread),
+        key,
+        value,
+    )
 }
 
 // Gives a live job another value.

@@ -88,8 +88,8 @@ module _ (wk l tr : List ℕ) {k : Check} (c : k ≡ entryCheck (store wk l tr))
   entry-passed =
       let y = entry-sizing wk l tr (sym c ∙ a) in
       record {
-      sizable = entry-sizable;
-      inside = record { table = record { working = y .working; notes = y .notes }; last = y .last; uid-lo = y .uid-lo; uid-hi = y .uid-hi };
+        sizable = entry-sizable;
+        inside = record { table = record { working = y .working; notes = y .notes }; last = y .last; uid-lo = y .uid-lo; uid-hi = y .uid-hi };
       }
 
   pub passes : (call : List ℕ → List ℕ → ℕ → ℕ → ℕ → Changed) {q : Check} {wk′ tr′ : List ℕ} → changed q wk′ tr′ ≡ call wk tr (slotsOf wk) (widthOf wk) (threadsOf (length tr) (slotsOf wk))

@@ -1,0 +1,14 @@
+-- `board_begin`: each way out is a law.
+use borrow.Author.Needs.{needs}
+use Rattle.board.specs.Code.{laws}
+use Rattle.board.proofs.jobs.board_begin.Statement.{statement}
+use Rattle.board.proofs.jobs.board_begin.Tie as tie
+
+pub board-begin-spec : {M : Type 1} → statement M
+board-begin-spec =
+    tie.close
+    (tie.spec
+    (λ c κs. search (needs, laws))
+    (λ c κs. search (needs, laws))
+    (λ c. search (needs, laws))
+    (λ c. search (needs, laws)))

@@ -1,0 +1,16 @@
+-- `board_format`: each way out is a law.
+use borrow.Author.Needs.{needs}
+use Rattle.board.specs.Code.{laws}
+use Rattle.board.proofs.jobs.board_format.Statement.{statement}
+use Rattle.board.proofs.jobs.board_format.Tie as tie
+
+pub board-format-spec : {M : Type 1} → statement M
+board-format-spec =
+    tie.close
+    (tie.spec
+    (λ c κs. search (needs, laws))
+    (λ c κs. search (needs, laws))
+    (λ c. search (needs, laws))
+    (λ c. search (needs, laws))
+    (λ c. search (needs, laws))
+    (λ c. search (needs, laws)))

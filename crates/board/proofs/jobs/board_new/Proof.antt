@@ -1,0 +1,15 @@
+-- `board_new`: each way out is a law.
+use borrow.Author.Needs.{needs}
+use Rattle.board.specs.Code.{laws}
+use Rattle.board.proofs.jobs.board_new.Statement.{statement}
+use Rattle.board.proofs.jobs.board_new.Tie as tie
+
+pub board-new-spec : {M : Type 1} → statement M
+board-new-spec =
+    tie.close
+    (tie.spec
+    (λ c κs. search (needs, laws))
+    (λ c κs. search (needs, laws))
+    (λ c. search (needs, laws))
+    (λ c. search (needs, laws))
+    (λ c. search (needs, laws)))
