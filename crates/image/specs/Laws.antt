@@ -2,10 +2,10 @@
 use Prim.Native.Nat.{ℕ, zero, suc, _+_, _*_, _-_, _≤_, _<_}
 use mathlib.Core.Path.{_≡_, refl, sym, ap, _∙_}
 use mathlib.Core.Logic.{_≢_, _⊎_, inl, inr, ⊎-elim}
-use mathlib.Core.List.{List}
+use mathlib.Core.List.{List, [], _∷_}
 use mathlib.Core.Bool.{Bool, true, false, _&&_}
 use lib.ListN.{length, getD, set, take, drop, length-set, length-take, length-drop}
-use lib.Seq.{getD-set-same, getD-set-other, drop-set-lt, ext-getD, getD-take, getD-drop, take-set-le}
+use lib.Seq.{getD-set-same, getD-set-other, drop-set-lt, ext-getD, getD-take, getD-drop, take-set-le, take-nil, drop-drop}
 use native.Mathlib.Omega.{arith}
 use native.Mathlib.Nat.{mul-suc, mul-le-mul-left, eq-or-lt-of-le}
 use native.Mathlib.Decide.{decLt}
@@ -219,3 +219,15 @@ unfolding keyAt
 key-contents l n w s h =
     let e : contentsAt n w s + 0 ≡ contentsAt n w s = omega arith in
     sym (contents-word l n w s 0 h ∙ ap (λ i. getD l i 0) e)
+
+drop-take : (v : ℕ) (l : List ℕ) → drop 1 (take (suc v) l) ≡ take v (drop 1 l)
+drop-take v [] = sym (take-nil v)
+drop-take v (x ∷ l) = refl
+
+pub value-contents : (l : List ℕ) (n w s : ℕ) → 1 ≤ w → valueAt l n w s ≡ drop 1 (contents l n w s)
+unfolding valueAt contents
+value-contents l n w s h =
+    let e : w ≡ suc (w - 1) = omega arith in
+    let d : drop 1 (take w (drop (contentsAt n w s) l)) ≡ take (w - 1) (drop 1 (drop (contentsAt n w s) l)) =
+    ap (λ k. drop 1 (take k (drop (contentsAt n w s) l))) e ∙ drop-take (w - 1) (drop (contentsAt n w s) l) in
+    sym (d ∙ ap (take (w - 1)) (drop-drop 1 (contentsAt n w s) l))
