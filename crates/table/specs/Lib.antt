@@ -1,3 +1,4 @@
 pub mod Find
 pub mod Fill
+pub mod Laws
 pub mod Code

@@ -7,6 +7,7 @@ use mathlib.Core.Bool.{Bool, not, cond, _&&_}
 use mathlib.Core.List.{List}
 use lib.ListN.{length, getD, set, replicate}
 use lib.Dec.{leb, eqb}
+use Rattle.image.specs.Layout.{stored}
 
 abbrev pub transientWords : ℕ → ℕ → ℕ
 transientWords n t = 4 + t + 3 * n
@@ -66,6 +67,13 @@ setRetired tr t s e = set tr (4 + t + s) e
 
 unfoldable pub setWaiting : List ℕ → ℕ → ℕ → ℕ → ℕ → List ℕ
 setWaiting tr n t e s = set tr (waitingAt n t e s) 1
+
+unfoldable pub setPlace : List ℕ → ℕ → ℕ → List ℕ
+setPlace tr phase slot = set (set tr 2 phase) 3 slot
+
+-- the waiting list of e, emptied
+unfoldable pub emptied : List ℕ → ℕ → ℕ → ℕ → List ℕ
+emptied tr n t e = stored tr (waitingAt n t e 0) (replicate n 0) n
 
 -- nothing open, retired, waiting or underway, with the last slot taken and the next uid
 unfoldable pub blank : ℕ → ℕ → ℕ → List ℕ

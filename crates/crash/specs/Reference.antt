@@ -1,0 +1,49 @@
+-- The reference map (01: "the plain board"): what the jobs would be if every change were kept, read at a threshold epoch.
+-- 01: "An accepted new, set or delete adds its kind, key, value and operation to the row." "The starting jobs .. are changed by the
+-- row's entries of present operations, in order: new and set give the key the value, delete takes it away."
+use Prim.Native.Nat.{ℕ, _≤_}
+use mathlib.Core.List.{List, [], _∷_}
+use mathlib.Core.Option.{Option, none, some}
+use mathlib.Core.Bool.{cond}
+use lib.Dec.{leb, eqb}
+
+-- what names a job: its key
+abbrev pub Name : Type 0
+Name = ℕ
+
+abbrev pub no-name : Name
+no-name = 0
+
+abbrev pub Value : Type 0
+Value = List ℕ
+
+pub data Act : Type 0 where
+  made changed deleted : Act
+
+-- one entry of the row: `epoch` is its operation's
+pub record Change : Type 0 where
+  pub epoch : ℕ
+  pub act : Act
+  pub name : Name
+  pub value : Value
+
+-- jobs by name
+abbrev pub Jobs : Type 0
+Jobs = Name → Option Value
+
+-- "new and set give the key the value, delete takes it away"
+abbrev pub leaves : Act → Value → Option Value
+leaves made v = some v
+leaves changed v = some v
+leaves deleted v = none
+
+abbrev pub applied : Change → Jobs → Jobs
+applied ch jobs = λ k. cond (eqb k (ch .name)) (leaves (ch .act) (ch .value)) (jobs k)
+
+-- the entries of operations whose epoch is at most e, in order
+abbrev pub played : ℕ → Jobs → List Change → Jobs
+played e jobs [] = jobs
+played e jobs (ch ∷ row) = played e (cond (leb (ch .epoch) e) (applied ch jobs) jobs) row
+
+unfoldable pub jobsAt : ℕ → Jobs → List Change → Jobs
+jobsAt e start row = played e start row

@@ -1,0 +1,134 @@
+-- What every change call needs and keeps: the operation it belongs to, the slot it writes, and all that it leaves as it was.
+use Prim.Native.Nat.{ℕ, suc, _+_, _≤_, _<_}
+use mathlib.Core.Path.{_≡_, refl, sym, ap, _∙_}
+use mathlib.Core.Bool.{Bool, true, false, not, cond, _&&_}
+use mathlib.Core.Logic.{_≢_, _⊎_, inl, inr, ⊎-elim}
+use mathlib.Core.List.{List, [], _∷_, _++_}
+use lib.ListN.{length, getD, drop}
+use lib.Dec.{leb, eqb}
+use borrow.Author.Tests.{eqb-true, eqb-false, leb-true, leb-false, le-leb, lt-leb, eq-eqb, ne-eqb}
+use native.Mathlib.Omega.{arith}
+use native.Mathlib.Decide.{ℕ-discrete, decLe}
+use Rattle.search.specs.Bools.{cases, never, and-both}
+use Rattle.image.specs.declared.header.Header.{Header}
+use Rattle.image.specs.Layout.{header, contents, Sized}
+use Rattle.transient.specs.Store.{Store, store}
+use Rattle.transient.specs.Layout.{nextUidOf, placePhase, placeSlot, openEpoch, retiredIn, isWaiting, Notes}
+use Rattle.transient.specs.Laws.{notes-after}
+use Rattle.epochs.specs.Advance.{underway}
+use Rattle.crash.specs.Table.{Put}
+use Rattle.crash.specs.Reference.{Jobs, Act, Name, Value, Change}
+use Rattle.crash.specs.Slots.{Entry, Slot, State, Place, Inv}
+use Rattle.crash.specs.Steps.{entry, Operation, Joins}
+use Rattle.guarantee.specs.Trace.{Plain, toldChange}
+use Rattle.guarantee.specs.View.{flag, entryOf, slotOf, view, progress, view-in, view-put}
+use Rattle.guarantee.specs.Good.{stateOf, Image, Opens, Past, Good}
+use Rattle.guarantee.specs.Notes.{Joined, joined-retired, joined-waiting, joined-open, joined-phase, joined-slot, joined-in, joined-kept, waiting-again}
+use Rattle.guarantee.specs.Images.{Wrote, wrote-image}
+
+-- ---- flags
+pub flag-up : (a b : Bool) → (a ≡ true → b ≡ true) → flag a ≤ flag b
+flag-up true b h = rw (h refl) (omega arith)
+flag-up false b h = omega arith
+
+pub flag-on : {b : Bool} → b ≡ true → 1 ≤ flag b
+flag-on h = rw h (omega arith)
+
+pub flag-off : {b : Bool} → b ≡ false → flag b ≡ 0
+flag-off h = rw h
+
+-- ---- no advance underway: nothing is written back yet
+pub record Resting (p : Place) : Type 0 where
+  pub flushed : p .flushed ≡ 0
+  pub half : p .half ≡ 0
+
+pub progress-rest : (n : ℕ) (tr : List ℕ) → underway tr ≡ false → Resting (progress n (placePhase tr) (placeSlot tr))
+unfolding underway progress
+progress-rest n tr u =
+    let k = placePhase tr in
+    let off : (j : ℕ) → 1 ≤ j → j ≤ 4 → eqb k j ≡ false =
+        λ j a b. ne-eqb k j (λ q. never _ (and-both (le-leb 1 k (omega arith)) (le-leb k 4 (omega arith))) u) in
+    record { flushed = rw (off 2 (omega arith) (omega arith), off 3 (omega arith) (omega arith), off 4 (omega arith) (omega arith)); half = rw (off 3 (omega arith) (omega arith)) }
+
+-- ---- the notes but for slots: the open operations and the place
+pub record NotesKept (tr tr′ : List ℕ) (t : ℕ) : Type 0 where
+  pub long : length tr′ ≡ length tr
+  pub opens : (thread : ℕ) → thread < t → openEpoch tr′ thread ≡ openEpoch tr thread
+  pub phase : placePhase tr′ ≡ placePhase tr
+  pub slot : placeSlot tr′ ≡ placeSlot tr
+
+pub joined-notes : {tr tr′ : List ℕ} {n t e s r u : ℕ} → Joined tr tr′ n t e s r u → NotesKept tr tr′ t
+joined-notes z = record { long = z .long; opens = joined-open z; phase = joined-phase z; slot = joined-slot z }
+
+pub opens-after : {t : ℕ} {tr tr′ : List ℕ} {p : Plain} → NotesKept tr tr′ t → Opens t tr p → Opens t tr′ p
+unfolding underway
+opens-after z o =
+    record {
+      same = λ u h. z .opens u h ∙ o .same u h;
+      least = λ u h. rw (z .opens u h) (o .least u h);
+      low = λ u h. rw (z .opens u h) (o .low u h);
+      high = λ u h. rw (z .opens u h) (o .high u h);
+      quiet = λ u h. rw (z .opens u h, z .phase) (o .quiet u h);
+    }
+
+module _ {n w t : ℕ} {start : Jobs} {st : Store} {p : Plain} (g : Good n w t start st p) where
+  -- ---- the operation
+  pub operation-of : (thread : ℕ) → thread < t → openEpoch (st .transient) thread ≢ 0 → Operation (openEpoch (st .transient) thread) (stateOf n w t start st p)
+  operation-of thread h q =
+      let o = g .opens in
+      let e : 1 ≤ openEpoch (st .transient) thread = omega arith in
+      record {
+        epoch-least = o .least thread h e;
+        epoch-lo = o .low thread h e;
+        epoch-hi = o .high thread h;
+        quiet-flushed = λ z. progress-rest n (st .transient) (o .quiet thread h z) .flushed;
+        quiet-half = λ z. progress-rest n (st .transient) (o .quiet thread h z) .half;
+      }
+
+  -- ---- the slot that is written
+  module _ {wk′ tr′ : List ℕ} {e s r u : ℕ} {h : Header} {line : List ℕ} (a : Wrote (st .working) wk′ n w s h line) (j : Joined (st .transient) tr′ n t e s r u) (k : s < n) where
+    abbrev now : ℕ
+    now = flag (isWaiting tr′ n t (p .clock) s)
+
+    abbrev before : ℕ
+    before = flag (isWaiting tr′ n t (p .clock + 1) s)
+
+    here : slotOf (store wk′ (st .persistent) tr′) n w t (p .clock) s
+        ≡ record { working = entryOf h line; persistent = view st n w t (p .clock) s .persistent; retired = r; now = now; before = before }
+    here = rw (view-in st n w t (p .clock) s k, a .header-here, a .line-here, j .retired)
+
+    there : (m : ℕ) → m < n → m ≢ s → slotOf (store wk′ (st .persistent) tr′) n w t (p .clock) m ≡ slotOf st n w t (p .clock) m
+    there m b d =
+        rw (a .header-there m b d, a .line-there m b d, joined-retired j m b d, joined-waiting j (p .clock) m k b d, joined-waiting j (p .clock + 1) m k b d)
+
+    pub change-put : Put (view st n w t (p .clock)) (view (store wk′ (st .persistent) tr′) n w t (p .clock)) s
+        (record { working = entryOf h line; persistent = view st n w t (p .clock) s .persistent; retired = r; now = now; before = before })
+    change-put = view-put st (store wk′ (st .persistent) tr′) n w t (p .clock) s _ k here there
+
+    pub change-joins : Joins (p .clock) e now before (view st n w t (p .clock) s)
+    change-joins =
+        rw (view-in st n w t (p .clock) s k)
+        record {
+          now-kept = flag-up (isWaiting (st .transient) n t (p .clock) s) (isWaiting tr′ n t (p .clock) s) (joined-kept j (p .clock) k);
+          before-kept = flag-up (isWaiting (st .transient) n t (p .clock + 1) s) (isWaiting tr′ n t (p .clock + 1) s) (joined-kept j (p .clock + 1) k);
+          joins-now = λ q. flag-on (rw q at (joined-in j));
+          joins-before = λ q. let y : isWaiting tr′ n t (p .clock + 1) s ≡ true = rw (← q) (waiting-later q) in flag-on y;
+        }
+      where
+        waiting-later : e + 1 ≡ p .clock → isWaiting tr′ n t (e + 1 + 1) s ≡ true
+        waiting-later q = let z : e + 1 + 1 ≡ e + 2 = omega arith in rw z (waiting-again tr′ n t e s ∙ joined-in j)
+
+  -- ---- all else
+  pub good-change : {wk′ tr′ : List ℕ} {row : List Change} → Image n w (p .clock) wk′ → NotesKept (st .transient) tr′ t
+      → Inv (stateOf n w t start (store wk′ (st .persistent) tr′) (record { clock = p .clock; operation = p .operation; row = row; ended = p .ended; durable = p .durable }))
+      → Good n w t start (store wk′ (st .persistent) tr′) (record { clock = p .clock; operation = p .operation; row = row; ended = p .ended; durable = p .durable })
+  good-change i z v =
+      record {
+        clock-hi = g .clock-hi;
+        working = i;
+        persistent = g .persistent;
+        notes = notes-after (z .long) (g .notes);
+        opens = let o = opens-after z (g .opens) in record { same = o .same; least = o .least; low = o .low; high = o .high; quiet = o .quiet };
+        past = record { ended-hi = g .past .ended-hi; durable-hi = g .past .durable-hi };
+        inv = v;
+      }

@@ -1,0 +1,66 @@
+-- Demand 3, as a statement. 01: "For every list of calls by any threads, wherever among the single stores into lasting memory the
+-- power fails .. recovery completes, with exactly the starting jobs changed by the accepted changes of operations whose epoch is at
+-- most c − 2, in call order."
+use Prim.Native.Nat.{ℕ, _+_, _-_, _≤_, _<_}
+use mathlib.Core.Path.{_≡_}
+use mathlib.Core.Bool.{Bool, true, _&&_}
+use mathlib.Core.Logic.{_≢_}
+use mathlib.Core.List.{List, _∷_, List·Memᴰ}
+use mathlib.Core.Option.{Option, none, some}
+use lib.Dec.{eqb}
+use Rattle.search.specs.First.{firstOf}
+use Rattle.search.specs.declared.Found.{Found}
+use Rattle.search.specs.declared.Found.the-variants.{At, Nothing}
+use Rattle.reply.specs.declared.Check.the-variants.{Accepted}
+use Rattle.image.specs.Layout.{slotsOf, widthOf, clockOf, keyAt, valueAt}
+use Rattle.transient.specs.Store.{Store}
+use Rattle.survival.specs.Survivors.{survivor}
+use Rattle.changes.specs.Format.{format}
+use Rattle.recovery.specs.declared.Recovery.the-variants.{Done}
+use Rattle.recovery.specs.Recover.{recover}
+use Rattle.recovery.specs.Completes.{AnyWords, call, Completes}
+use Rattle.crash.specs.Reference.{Name, Value, Jobs, jobsAt}
+use Rattle.guarantee.specs.Trace.{Call, Moment, startOf, run}
+
+-- ---- the jobs of an image: its survivors, by key
+unfoldable pub survivesAs : List ℕ → Name → ℕ → Bool
+survivesAs l k s = survivor l (slotsOf l) s && eqb (keyAt l (slotsOf l) (widthOf l) s) k
+
+abbrev pub valueFound : List ℕ → Found → Option Value
+valueFound l (At s) = some (valueAt l (slotsOf l) (widthOf l) s)
+valueFound l Nothing = none
+
+unfoldable pub jobsOf : List ℕ → Jobs
+jobsOf l k = valueFound l (firstOf (survivesAs l k) (slotsOf l))
+
+-- "just these: the same keys, each once, the same value words"
+pub record Holds (l : List ℕ) (jobs : Jobs) : Type 0 where
+  pub same : (k : Name) → jobsOf l k ≡ jobs k
+  pub once : (s t : ℕ) → s < slotsOf l → t < slotsOf l → s ≢ t → survivor l (slotsOf l) s ≡ true → survivor l (slotsOf l) t ≡ true
+      → keyAt l (slotsOf l) (widthOf l) s ≢ keyAt l (slotsOf l) (widthOf l) t
+
+-- ---- "what fresh left, or the recover that replied done"
+pub data Started : Store → Type 0 where
+  fresh : (st : Store) (slots words : ℕ) → format st slots words .reply ≡ Accepted → Started (format st slots words .store)
+  recovered : (st : Store) → recover st .reply ≡ Done → Started (recover st .store)
+
+-- ---- a cut at a moment of a run that began with these jobs
+-- "An operation is present if its epoch is at most c − 2": the starting jobs changed by the row's entries of present operations
+abbrev pub present : Jobs → Moment → Jobs
+present start m = jobsAt (m .plain .clock - 2) start (m .plain .row)
+
+pub record Promise (start : Jobs) (m : Moment) : Type 0 where
+  -- "Let c be word 2 of lasting at the cut; it equals the plain board's clock there."
+  pub clock : clockOf (m .store .persistent) ≡ m .plain .clock
+  -- no recover call declines and at most N go on before one is done, with any words in working and notes before each of them
+  pub completes : (any : AnyWords (m .store .persistent)) → Completes any
+  -- "Both images' survivors at done are just these"
+  pub persistent : (any : AnyWords (m .store .persistent)) (c : Completes any) → Holds (call any (c .before) .store .persistent) (present start m)
+  pub working : (any : AnyWords (m .store .persistent)) (c : Completes any) → Holds (call any (c .before) .store .working) (present start m)
+  -- an operation that ended before a sync that reported done is present
+  pub durable : (e : ℕ) → List·Memᴰ e (m .plain .durable) → e + 2 ≤ m .plain .clock
+
+-- the whole claim: a cut before the first call, or at any moment passed
+abbrev pub Demand3 : Type 0
+Demand3 = (st : Store) → Started st → (calls : List Call) (m : Moment) → List·Memᴰ m (startOf st ∷ run calls (startOf st) .passed)
+    → Promise (jobsOf (st .persistent)) m

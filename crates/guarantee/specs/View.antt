@@ -1,0 +1,89 @@
+-- A store seen as a table of slots, for the crash invariant: what each slot holds in both images and in the notes.
+use Prim.Native.Nat.{ℕ, _+_, _≤_, _<_}
+use mathlib.Core.Path.{_≡_, refl}
+use mathlib.Core.Bool.{Bool, cond, _&&_}
+use mathlib.Core.Logic.{_≢_}
+use mathlib.Core.List.{List, []}
+use lib.ListN.{getD, drop}
+use lib.Dec.{leb, ltb, eqb}
+use borrow.Author.Tests.{lt-ltb, le-ltb}
+use native.Mathlib.Omega.{arith}
+use native.Mathlib.Decide.{decLt}
+use Rattle.image.specs.declared.header.Header.{Header}
+use Rattle.image.specs.Layout.{header, contents}
+use Rattle.transient.specs.Store.{Store}
+use Rattle.transient.specs.Layout.{retiredIn, isWaiting}
+use Rattle.crash.specs.Table.{Put, Put2}
+use Rattle.crash.specs.Slots.{Entry, Slot, Place}
+use Rattle.crash.specs.Steps.{entry}
+
+abbrev pub flag : Bool → ℕ
+flag b = cond b 1 0
+
+abbrev pub entryOf : Header → List ℕ → Entry
+entryOf h line = entry (h .kind) (h .epoch) (h .uid) (getD line 0 0) (drop 1 line)
+
+-- `before` is the list of c − 1, which is kept where that of c + 1 will be
+abbrev pub slotOf : Store → ℕ → ℕ → ℕ → ℕ → ℕ → Slot
+slotOf st n w t c s =
+    record {
+      working = entryOf (header (st .working) s) (contents (st .working) n w s);
+      persistent = entryOf (header (st .persistent) s) (contents (st .persistent) n w s);
+      retired = retiredIn (st .transient) t s;
+      now = flag (isWaiting (st .transient) n t c s);
+      before = flag (isWaiting (st .transient) n t (c + 1) s);
+    }
+
+abbrev pub noSlot : Slot
+noSlot = record { working = entry 0 0 0 0 []; persistent = entry 0 0 0 0 []; retired = 0; now = 0; before = 0 }
+
+-- slots out of range are free
+unfoldable pub view : Store → ℕ → ℕ → ℕ → ℕ → ℕ → Slot
+view st n w t c s = cond (ltb s n) (slotOf st n w t c s) noSlot
+
+-- how far the advance has come, by the place in the notes
+unfoldable pub progress : ℕ → ℕ → ℕ → Place
+progress n phase slot =
+    record {
+      looked = cond (eqb phase 1) slot (cond (leb 2 phase && leb phase 4) n 0);
+      flushed = cond (eqb phase 2) slot (cond (eqb phase 3) slot (cond (eqb phase 4) n 0));
+      half = cond (eqb phase 3) 1 0;
+    }
+
+module _ (st : Store) (n w t c : ℕ) where
+  pub view-in : (s : ℕ) → s < n → view st n w t c s ≡ slotOf st n w t c s
+  unfolding view
+  view-in s h = rw (lt-ltb s n h)
+
+  pub view-out : (s : ℕ) → n ≤ s → view st n w t c s ≡ noSlot
+  unfolding view
+  view-out s h = rw (le-ltb s n h)
+
+-- ---- from slots to tables
+module _ (a b : Store) (n w t c : ℕ) where
+  -- b holds in slot m what a holds there
+  abbrev pub Alike : ℕ → Type 0
+  Alike m = slotOf b n w t c m ≡ slotOf a n w t c m
+
+  pub same-view : (m : ℕ) → (m < n → Alike m) → view b n w t c m ≡ view a n w t c m
+  unfolding view
+  same-view m h = elim (decLt m n) [
+    | yes q ↦ rw (lt-ltb m n q) (h q)
+    | no q ↦ rw (le-ltb m n (omega arith))
+  ]
+
+  pub view-put : (s : ℕ) (x : Slot) → s < n → slotOf b n w t c s ≡ x → ((m : ℕ) → m < n → m ≢ s → Alike m)
+      → Put (view a n w t c) (view b n w t c) s x
+  view-put s x h here there =
+      record { here = rw (view-in b n w t c s h) here; there = λ m d. same-view m (λ q. there m q d) }
+
+  pub view-put2 : (s r : ℕ) (x y : Slot) → s < n → r < n → s ≢ r → slotOf b n w t c s ≡ x → slotOf b n w t c r ≡ y
+      → ((m : ℕ) → m < n → m ≢ s → m ≢ r → Alike m)
+      → Put2 (view a n w t c) (view b n w t c) s x r y
+  view-put2 s r x y h k d here there rest =
+      record {
+        apart = d;
+        first = rw (view-in b n w t c s h) here;
+        second = rw (view-in b n w t c r k) there;
+        rest = λ m p q. same-view m (λ z. rest m z p q);
+      }
