@@ -1,6 +1,6 @@
 -- The ways out of read, and that a slot it gives is one of the table.
 use Prim.Native.Nat.{ℕ, _+_, _*_, _-_, _≤_, _<_}
-use mathlib.Core.Path.{_≡_, refl, sym, ap, _∙_}
+use mathlib.Core.Path.{_≡_, refl, sym, _∙_}
 use mathlib.Core.Bool.{Bool, true, false, cond}
 use mathlib.Core.List.{List}
 use lib.ListN.{length, take, drop}
@@ -20,7 +20,7 @@ use Rattle.reply.specs.Refusals.{refusalNumber, declinedNumber}
 use Rattle.image.specs.Layout as layout
 use Rattle.image.specs.Layout.{contentsAt, valueAt, slotsOf, widthOf}
 use Rattle.image.specs.Code.{slot, area-top}
-use Rattle.transient.specs.Store.{Store, store}
+use Rattle.transient.specs.Store.{store}
 use Rattle.transient.specs.Layout.{openEpoch}
 use Rattle.transient.specs.Entry.{threads, entryCheck}
 use Rattle.table.specs.Find.{liveAt, liveSlot, lookup}
