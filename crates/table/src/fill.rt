@@ -4,7 +4,7 @@ ghost use mathlib.Core.Path.{_≡_};
 ghost use Prim.Native.Nat.{_+_, _-_, _≤_};
 ghost use lib.ListN.{length, replicate};
 ghost use mathlib.Core.List.{_∷_};
-ghost use Rattle.image.specs.Layout.{stored, setContents, Slot};
+ghost use Rattle.image.specs.Layout.{stored, Slot};
 ghost use Rattle.transient.specs.Layout.{NoteOf};
 ghost use Rattle.table.specs.Fill.{setValue, filledSlot, taken, joined};
 ghost use Rattle.table.specs.Code.{SlotValue};
