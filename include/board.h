@@ -92,6 +92,25 @@ uint32_t board_delete(uint32_t *working, size_t working_words,
                       uint32_t *transient, size_t transient_words,
                       uint32_t thread, uint32_t key);
 
+/* Where in working the value of a live job starts, W - 1 words long, or BOARD_REFUSED plus the
+ * refusal. It needs no open operation, and nothing is changed. The words stay as they are until the
+ * next call that changes the store.
+ *
+ *     uint64_t at = board_read(w, wn, p, pn, t, tn, thread, key);
+ *     if (at < BOARD_REFUSED)
+ *         use(w + at, words - 1);
+ */
+uint64_t board_read(const uint32_t *working, size_t working_words,
+                    const uint32_t *persistent, size_t persistent_words,
+                    const uint32_t *transient, size_t transient_words,
+                    uint32_t thread, uint32_t key);
+
+/* The refusal of board_read with the same arguments, 0 for none. */
+uint32_t board_read_refusal(const uint32_t *working, size_t working_words,
+                            const uint32_t *persistent, size_t persistent_words,
+                            const uint32_t *transient, size_t transient_words,
+                            uint32_t thread, uint32_t key);
+
 /* What one recover call did. */
 enum board_recovery {
     BOARD_WENT_ON = 0, /* it freed one header of the persistent image: call again */

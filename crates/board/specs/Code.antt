@@ -18,10 +18,10 @@ use Rattle.changes.specs.Changed.{Answer, answer, replyNumber}
 use Rattle.image.specs.Bytes.{wordsOf}
 use Rattle.transient.specs.Store.{Store, store}
 use Rattle.acceptance.specs.Questions.{Buffered, prefix-is, decoding, bytesOk, clockAnswer, survivorsAnswer, clockOfBytes, survivorsOfBytes}
-use Rattle.recovery.specs.Recover.{Recovered, recovered, recover, recoveryNumber}
+use Rattle.recovery.specs.Recover.{recovered, recover, recoveryNumber}
 use Rattle.recovery.specs.declared.Recovery.{Recovery}
 use Rattle.recovery.specs.declared.Recovery.the-variants.{WentOn, Done, Declined}
-use Rattle.board.specs.Calls.{Called, called, recoveredCall, recoverCall, answerCall, imageLength, transientLength}
+use Rattle.board.specs.Calls.{called, recoveredCall, recoverCall, answerCall, imageLength, transientLength}
 
 -- ---- recover
 module _ (st : Store) {r : Recovery} {w p t : List ℕ} (e : recovered r w p t ≡ recover st) where

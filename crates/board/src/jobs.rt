@@ -8,6 +8,7 @@ ghost use Rattle.changes.specs.New.{new};
 ghost use Rattle.changes.specs.Set.{set};
 ghost use Rattle.changes.specs.Delete.{delete};
 ghost use Rattle.changes.specs.Format.{format};
+ghost use Rattle.changes.specs.Read.{read, readNumber, readPosition};
 ghost use Rattle.board.specs.Calls.{called, answerCall};
 
 // 0 for accepted, else 01's number of the refusal.
@@ -96,4 +97,31 @@ pub extern "C" fn board_delete(
     ensures { λ r. ⌜ called r (now (working .exit)) (now (persistent .entry)) (now (transient .exit)) ≡ answerCall (delete (store (now (working .entry)) (now (persistent .entry)) (now (transient .entry))) thread key) ⌝ }
 {
     reply_number(change_delete::delete(working, persistent, transient, thread, key))
+}
+
+// Where the value starts in the working image, or 2^32 plus the refusal.
+#[no_mangle]
+pub extern "C" fn board_read(
+    working: &[u32],
+    persistent: &[u32],
+    transient: &[u32],
+    thread: u32,
+    key: u32,
+) -> u64
+    ensures { λ r. ⌜ r ≡ readPosition (read (store (now (working .entry)) (now (persistent .entry)) (now (transient .entry))) thread key) (now (working .entry)) ⌝ }
+{
+    changes::read::read_position(working, persistent, transient, thread, key)
+}
+
+#[no_mangle]
+pub extern "C" fn board_read_refusal(
+    working: &[u32],
+    persistent: &[u32],
+    transient: &[u32],
+    thread: u32,
+    key: u32,
+) -> u32
+    ensures { λ r. ⌜ r ≡ readNumber (read (store (now (working .entry)) (now (persistent .entry)) (now (transient .entry))) thread key) ⌝ }
+{
+    changes::read::read_refusal(working, persistent, transient, thread, key)
 }

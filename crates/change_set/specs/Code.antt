@@ -1,37 +1,30 @@
 -- What the proofs of this crate's functions cite.
-use Prim.Native.Nat.{ℕ, _+_, _-_, _≤_, _<_}
-use mathlib.Core.Path.{_≡_, refl, sym, ap, _∙_}
-use mathlib.Core.Bool.{Bool, true, false, not, cond, _||_}
+use Prim.Native.Nat.{ℕ, _-_, _≤_, _<_}
+use mathlib.Core.Path.{_≡_}
 use mathlib.Core.List.{List, _∷_}
-use lib.ListN.{length, replicate}
-use lib.Dec.{leb, ltb, eqb}
-use borrow.Author.Tests.{le-leb, lt-leb, lt-ltb, le-ltb, eq-eqb, ne-eqb}
+use lib.ListN.{length}
+use borrow.Author.Tests.{le-leb, lt-leb, eq-eqb, ne-eqb}
 use Rattle.search.specs.declared.Found.{Found}
 use Rattle.search.specs.declared.Found.the-variants.{At, Nothing}
 use Rattle.reply.specs.declared.Check.{Check}
 use Rattle.reply.specs.declared.Check.the-variants.{Accepted, Refused}
 use Rattle.reply.specs.declared.Refusal.{Refusal}
-use Rattle.reply.specs.declared.Refusal.the-variants.{NoThread, NotOpen, BadArgument, Newer, NoJob, JobExists, NoUid, Full}
+use Rattle.reply.specs.declared.Refusal.the-variants.{NoThread, NotOpen, BadArgument, Newer, NoJob, Full}
 use Rattle.image.specs.declared.header.Header.{Header}
-use Rattle.image.specs.Layout.{header, freeHeader, freshHeader, updatedHeader, antiHeader, setHeader, slotsOf, widthOf, Slot}
-use Rattle.transient.specs.Store.{Store, store}
-use mir.Val.{Fits}
-use mir.Syntax.{w32}
-use native.Mathlib.Omega.{arith}
-use Rattle.transient.specs.Layout.{NoteOf, threadsOf, lastTaken, nextUidOf, openEpoch, setNextUid, setWaiting}
+use Rattle.image.specs.Layout.{header, updatedHeader, slotsOf, widthOf}
+use Rattle.transient.specs.Store.{store}
+use Rattle.transient.specs.Layout.{NoteOf, threadsOf, lastTaken, openEpoch, setWaiting}
 use Rattle.transient.specs.Entry.{entryCheck}
 use Rattle.table.specs.Find.{lookup, room}
-use Rattle.table.specs.Fill.{setValue, filledSlot, joined, taken}
+use Rattle.table.specs.Fill.{setValue}
 use Rattle.table.specs.declared.find.Lookup.{Lookup}
 use Rattle.table.specs.declared.find.Lookup.the-variants.{Live, Absent}
 use Rattle.table.specs.Code.{SlotValue, note-after}
 use Rattle.changes.specs.declared.sizes.Sizes as sizes-type
-use Rattle.changes.specs.Changed.{Changed, changed, refused, Answer, answer}
+use Rattle.changes.specs.Changed.{Changed, changed, refused, answer}
 use Rattle.changes.specs.Job.{badJob, superseded}
-use Rattle.changes.specs.New.{newAt, newAbsent, newOpen, made, new}
 use Rattle.changes.specs.Set.{rewritten, updated, setAt, setOpened, replaced, set}
-use Rattle.changes.specs.Delete.{freedAt, turned, covered, deleteAt, deleteOpened, removed, delete}
-use Rattle.changes.specs.Code.{sizesOf, passes, passing, declined, supersededAt, superseded-done, thread-of, entered-width, entered-table, entered-notes, entered-rooms, opened-of, opened-entered, opened-table, opened-notes, opened-rooms, reached-header, reached-note, reached-slot, reached-notes, reached-rooms, held-entered, reached-entered, held-reached, held-value, held-note, held-header, held-notes, held-rooms, looked-held, looked-reached, room-placed, room-superseding, room-covering, Placed, Superseding, Covering, Held, Reached}
+use Rattle.changes.specs.Code.{sizesOf, passes, passing, declined, supersededAt, superseded-done, thread-of, entered-width, opened-of, opened-entered, opened-table, opened-notes, reached-note, held-entered, held-reached, held-value, held-note, held-header, held-notes, held-rooms, looked-held, room-superseding, Superseding}
 
 pub super-value : {wk tr value : List ℕ} {n w t s f : ℕ} → Superseding wk tr n w t s f value → SlotValue wk n w f value
 super-value z = held-value (z .to)

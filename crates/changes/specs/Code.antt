@@ -1,36 +1,33 @@
 -- What functions inside the calls require, and the ways out of begin, end and of what new, set and delete share.
-use Prim.Native.Nat.{ℕ, _+_, _-_, _≤_, _<_}
+use Prim.Native.Nat.{ℕ, _-_, _≤_, _<_}
 use mathlib.Core.Path.{_≡_, refl, sym, ap, _∙_}
-use mathlib.Core.Bool.{Bool, true, false, not, cond, _||_}
+use mathlib.Core.Bool.{not}
 use mathlib.Core.List.{List}
 use lib.ListN.{length}
-use lib.Dec.{leb, eqb}
 use borrow.Author.Tests.{le-leb, lt-leb, eq-eqb, ne-eqb, not-false}
 use native.Mathlib.Omega.{arith}
-use Rattle.search.specs.Bools.{tests}
 use Rattle.search.specs.declared.Found.{Found}
-use Rattle.search.specs.declared.Found.the-variants.{At, Nothing}
+use Rattle.search.specs.declared.Found.the-variants.{At}
 use Rattle.reply.specs.declared.Check.{Check}
 use Rattle.reply.specs.declared.Check.the-variants.{Accepted, Refused}
 use Rattle.reply.specs.declared.Refusal.{Refusal}
-use Rattle.reply.specs.declared.Refusal.the-variants.{Sizes, Clock, NoThread, AlreadyOpen, NotOpen, BadArgument}
+use Rattle.reply.specs.declared.Refusal.the-variants.{Sizes, Clock, NoThread, AlreadyOpen, NotOpen}
 use Rattle.reply.specs.Refusals.{refuse, not-refused}
 use Rattle.image.specs.declared.header.Header.{Header}
 use Rattle.image.specs.Layout.{slotsOf, widthOf, clockOf, Slot, HeaderFits}
 use Rattle.image.specs.Code.{slot, header-fits}
-use Rattle.transient.specs.Store.{Store, store}
-use Rattle.transient.specs.Layout.{threadsOf, lastTaken, nextUidOf, openEpoch, setOpen, setRetired, ThreadRoom, Notes, NoteOf, ThreadOf}
+use Rattle.transient.specs.Store.{store}
+use Rattle.transient.specs.Layout.{threadsOf, lastTaken, nextUidOf, openEpoch, setOpen, setRetired, ThreadRoom, NoteOf, ThreadOf}
 use Rattle.transient.specs.Entry.{sizesFit, clocksFit, threads, entryCheck}
 use Rattle.transient.specs.Code.{Sizing, sizing}
 use Rattle.table.specs.Find.{lookup, room}
 use Rattle.table.specs.Fill.{filledSlot, taken}
 use Rattle.table.specs.declared.find.Lookup.{Lookup}
 use Rattle.table.specs.declared.find.Lookup.the-variants.{Live}
-use Rattle.table.specs.Code.{Table, TableSlot, Rooms, SlotValue, room-below, lookup-below, fills}
+use Rattle.table.specs.Code.{Table, Rooms, SlotValue, room-below, lookup-below}
 use Rattle.changes.specs.declared.sizes.Sizes as sizes-type
-use Rattle.changes.specs.Changed.{Changed, changed, refused, declines, Answer, answer, entered, onStore}
+use Rattle.changes.specs.Changed.{Changed, changed, refused, answer, entered, onStore}
 use Rattle.changes.specs.Open.{begun, ended, begin, end}
-use Rattle.changes.specs.Job.{badJob, operating, superseded}
 
 -- ---- the sizes
 pub record Sizable (wk tr : List ℕ) : Type 0 where

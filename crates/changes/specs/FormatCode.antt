@@ -1,7 +1,7 @@
 -- The ways out of format.
-use Prim.Native.Nat.{ℕ, _-_, _≤_, _<_}
+use Prim.Native.Nat.{ℕ, _-_, _≤_}
 use mathlib.Core.Path.{_≡_, refl, sym, ap, _∙_}
-use mathlib.Core.Bool.{Bool, true, false, _&&_}
+use mathlib.Core.Bool.{Bool, true, false}
 use mathlib.Core.List.{List}
 use lib.ListN.{length, set, replicate}
 use lib.Dec.{eqb}
@@ -14,9 +14,9 @@ use Rattle.image.specs.Layout.{imageWords, sizesOk}
 use Rattle.image.specs.Layout.{Sizes as InRange}
 use Rattle.image.specs.Code.{sizes-true}
 use Rattle.transient.specs.Store.{Store, store}
-use Rattle.transient.specs.Layout.{threadsOk, threadsOf, blank}
+use Rattle.transient.specs.Layout.{threadsOk, blank}
 use Rattle.transient.specs.Code.{threads-room}
-use Rattle.changes.specs.Changed.{Answer, answer}
+use Rattle.changes.specs.Changed.{answer}
 use Rattle.changes.specs.Format.{freshImage, formatFits, freshStore, format}
 
 pub record Blanking (l : List ℕ) (n w : ℕ) : Type 0 where

@@ -9,3 +9,4 @@ pub mod Format
 pub mod Code
 pub mod ReadCode
 pub mod FormatCode
+pub mod Kept

@@ -1,6 +1,6 @@
 -- 01: "Begin opens an operation in the clock's epoch; end closes it."
 use Prim.Native.Nat.{ℕ}
-use mathlib.Core.Bool.{Bool, not}
+use mathlib.Core.Bool.{not}
 use mathlib.Core.List.{List}
 use lib.Dec.{leb, eqb}
 use Rattle.reply.specs.declared.Check.the-variants.{Accepted}

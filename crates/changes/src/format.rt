@@ -3,7 +3,6 @@ use reply::Check;
 use reply::Refusal;
 ghost use mathlib.Core.Path.{_≡_};
 ghost use lib.ListN.{length};
-ghost use Rattle.image.specs.Layout.{imageWords};
 ghost use Rattle.transient.specs.Store.{store};
 ghost use Rattle.changes.specs.Changed.{answer};
 ghost use Rattle.changes.specs.Format.{freshImage, formatFits, freshStore, format};

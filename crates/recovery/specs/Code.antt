@@ -29,7 +29,7 @@ use Rattle.transient.specs.Layout.{threadsOf, threadsOk, blank}
 use Rattle.survival.specs.Survivors.{survivor, keptAnti}
 use Rattle.acceptance.specs.Accept.{headCheck, slotsCheck, proper}
 use Rattle.acceptance.specs.Sound.{Sound, sound, uid-top}
-use Rattle.recovery.specs.Recover.{antiAt, stale, orElse, nextFreed, uidOf, nextUid, lengthsFit, entryCheck, recoverCheck, Recovered, recovered, finished, freeing, judged, recover}
+use Rattle.recovery.specs.Recover.{antiAt, stale, orElse, nextFreed, uidOf, nextUid, lengthsFit, recoverEntryCheck, recoverCheck, Recovered, recovered, finished, freeing, judged, recover}
 use Rattle.survival.specs.Code.{Headers, HeaderOf, Marked, AllMarked, flag-is, headers-of, header-in}
 use Rattle.recovery.specs.declared.Recovery.{Recovery}
 use Rattle.recovery.specs.declared.Recovery.the-variants.{WentOn, Done, Declined}
@@ -152,21 +152,21 @@ sizes-both true = refl
 sizes-both false = refl
 
 module _ (wl : ℕ) (l : List ℕ) (tl : ℕ) {s : Bool} (sh : s ≡ shapeOk l) where
-  pub entry-shape : s ≡ false → Refused Sizes ≡ entryCheck wl l tl
-  unfolding entryCheck headCheck
+  pub entry-shape : s ≡ false → Refused Sizes ≡ recoverEntryCheck wl l tl
+  unfolding recoverEntryCheck headCheck
   entry-shape e = rw (← sh, e) (sizes-both (not (lengthsFit wl l tl)))
 
-  pub entry-working : s ≡ true → (wl ≡ length l → ⊥) → Refused Sizes ≡ entryCheck wl l tl
-  unfolding entryCheck lengthsFit
+  pub entry-working : s ≡ true → (wl ≡ length l → ⊥) → Refused Sizes ≡ recoverEntryCheck wl l tl
+  unfolding recoverEntryCheck lengthsFit
   entry-working t d = rw (ne-eqb wl (length l) d)
 
   module _ {n : ℕ} {k : Bool} (long : wl ≡ length l) (at : n ≡ slotsOf l) (th : k ≡ threadsOk tl n) where
-    pub entry-threads : k ≡ false → Refused Sizes ≡ entryCheck wl l tl
-    unfolding entryCheck lengthsFit
+    pub entry-threads : k ≡ false → Refused Sizes ≡ recoverEntryCheck wl l tl
+    unfolding recoverEntryCheck lengthsFit
     entry-threads e = rw (eq-eqb wl (length l) long, ← at, ← th, e)
 
-    pub entry-head : {r : Check} → k ≡ true → r ≡ headCheck l → r ≡ entryCheck wl l tl
-    unfolding entryCheck lengthsFit
+    pub entry-head : {r : Check} → k ≡ true → r ≡ headCheck l → r ≡ recoverEntryCheck wl l tl
+    unfolding recoverEntryCheck lengthsFit
     entry-head e h = rw (eq-eqb wl (length l) long, ← at, ← th, e) h
 
 pub entry-first : (l : List ℕ) {s : Bool} → s ≡ shapeOk l → s ≡ true → 0 < length l
@@ -181,8 +181,8 @@ pub record Entered (wk l t : List ℕ) (n w : ℕ) : Type 0 where
   pub same : length wk ≡ length l
   pub notes : 2 ≤ length t
 
-entry-passed : (wk l t : List ℕ) {k : Check} → k ≡ entryCheck (length wk) l (length t) → k ≡ Accepted → Entered wk l t (slotsOf l) (widthOf l)
-unfolding entryCheck headCheck lengthsFit threadsOk
+entry-passed : (wk l t : List ℕ) {k : Check} → k ≡ recoverEntryCheck (length wk) l (length t) → k ≡ Accepted → Entered wk l t (slotsOf l) (widthOf l)
+unfolding recoverEntryCheck headCheck lengthsFit threadsOk
 entry-passed wk l t e a =
     let same = eqb (length wk) (length l) in
     let some = leb 1 (threadsOf (length t) (slotsOf l)) in
@@ -197,10 +197,10 @@ entry-passed wk l t e a =
       notes = omega arith;
     }
 
-pub entered : (wk l t : List ℕ) {k : Check} {n w : ℕ} → k ≡ entryCheck (length wk) l (length t) → k ≡ Accepted → n ≡ slotsOf l → w ≡ widthOf l → Entered wk l t n w
+pub entered : (wk l t : List ℕ) {k : Check} {n w : ℕ} → k ≡ recoverEntryCheck (length wk) l (length t) → k ≡ Accepted → n ≡ slotsOf l → w ≡ widthOf l → Entered wk l t n w
 entered wk l t e a p q = rw (p, q) (entry-passed wk l t e a)
 
-pub entered-long : (wk l t : List ℕ) (j : ℕ) {k : Check} → k ≡ entryCheck (length wk) l (length t) → k ≡ Accepted → j < 3 → j < length l
+pub entered-long : (wk l t : List ℕ) (j : ℕ) {k : Check} → k ≡ recoverEntryCheck (length wk) l (length t) → k ≡ Accepted → j < 3 → j < length l
 entered-long wk l t j e a h = let z = entry-passed wk l t e a .sized in omega arith
 
 unfoldable pub stepped : Store → ℕ → ℕ → Recovered
@@ -235,7 +235,7 @@ module _ (wk l t : List ℕ) (n w : ℕ) {k : Check} (c : k ≡ slotsCheck l n w
   unfolding stepped
   step-goes a h = rw (← c, a) h
 
-module _ (wk l t : List ℕ) {k : Check} (c : k ≡ entryCheck (length wk) l (length t)) where
+module _ (wk l t : List ℕ) {k : Check} (c : k ≡ recoverEntryCheck (length wk) l (length t)) where
   pub recover-declines : {r : Refusal} → k ≡ Refused r → recovered (Declined r) wk l t ≡ recover (store wk l t)
   unfolding recover recoverCheck
   recover-declines a = rw (← c, a)

@@ -16,7 +16,7 @@ use Rattle.image.specs.Layout.{header, slotsOf, setHeader, freeHeader}
 use Rattle.transient.specs.Store.{Store, store}
 use Rattle.survival.specs.Survivors.{survivor}
 use Rattle.acceptance.specs.Accept.{imageCheck}
-use Rattle.recovery.specs.Recover.{nextFreed, lengthsFit, entryCheck, recoverCheck, Recovered, finished, freeing, recover}
+use Rattle.recovery.specs.Recover.{nextFreed, lengthsFit, recoverEntryCheck, recoverCheck, Recovered, finished, freeing, recover}
 use Rattle.recovery.specs.Steps.{SameSurvivors, filledAt, step-keeps, step-accepted, step-lowers, done-survivors}
 use Rattle.recovery.specs.declared.Recovery.the-variants.{WentOn, Done}
 
@@ -110,7 +110,7 @@ way-bound {l} o = omega (arith, count-top (filledAt l) (slotsOf l))
 -- ---- one call on an accepted image: it does not decline
 not-declined : (w l t : List ℕ) → imageCheck l ≡ Accepted → lengthsFit (length w) l (length t) ≡ true
     → recover (store w l t) ≡ freeing (nextFreed l (slotsOf l)) (store w l t) (slotsOf l)
-unfolding recover recoverCheck entryCheck imageCheck
+unfolding recover recoverCheck recoverEntryCheck imageCheck
 not-declined w l t ok fit = rw (fit, ok)
 
 module _ (l : List ℕ) (ok : imageCheck l ≡ Accepted) (any : AnyWords l) where

@@ -48,13 +48,13 @@ unfoldable pub lengthsFit : ℕ → List ℕ → ℕ → Bool
 lengthsFit working l transient = eqb working (length l) && threadsOk transient (slotsOf l)
 
 -- refusals 1 and 2 of recover
-unfoldable pub entryCheck : ℕ → List ℕ → ℕ → Check
-entryCheck working l transient = refuse (not (lengthsFit working l transient)) Sizes (headCheck l)
+unfoldable pub recoverEntryCheck : ℕ → List ℕ → ℕ → Check
+recoverEntryCheck working l transient = refuse (not (lengthsFit working l transient)) Sizes (headCheck l)
 
 unfoldable pub recoverCheck : Store → Check
 recoverCheck st =
     andThen
-    (entryCheck (length (st .working)) (st .persistent) (length (st .transient)))
+    (recoverEntryCheck (length (st .working)) (st .persistent) (length (st .transient)))
     (slotsCheck (st .persistent) (slotsOf (st .persistent)) (widthOf (st .persistent)))
 
 pub record Recovered : Type 0 where

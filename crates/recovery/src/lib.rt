@@ -9,7 +9,7 @@ ghost use Rattle.search.specs.First.{firstOf};
 ghost use Rattle.search.specs.Largest.{raised};
 ghost use Rattle.transient.specs.Store.{store};
 ghost use Rattle.survival.specs.Survivors.{survivor};
-ghost use Rattle.recovery.specs.Recover.{antiAt, stale, nextFreed, uidOf, nextUid, entryCheck, recovered, finished, freeing, recover};
+ghost use Rattle.recovery.specs.Recover.{antiAt, stale, nextFreed, uidOf, nextUid, recoverEntryCheck, recovered, finished, freeing, recover};
 ghost use Rattle.survival.specs.Code.{Headers, HeaderOf, Marked};
 ghost use Rattle.recovery.specs.Code.{FlagAt, Uids, Finishing, Entered, stepped};
 
@@ -145,7 +145,7 @@ fn free_next(
 
 // Refusals 1 and 2; of what recover fills, only the lengths are judged.
 fn check_entry(working: usize, persistent: &[u32], transient: usize) -> Check
-    ensures { λ r. ⌜ r ≡ entryCheck working (now (persistent .entry)) transient ⌝ }
+    ensures { λ r. ⌜ r ≡ recoverEntryCheck working (now (persistent .entry)) transient ⌝ }
 {
     if image::shape::shape_ok(persistent) {
         if working != persistent.len() {

@@ -1,14 +1,13 @@
 -- What the proofs of this crate's functions cite.
 use Prim.Native.Nat.{ℕ, zero, suc, _+_, _*_, _-_, _≤_, _<_, _^_}
 use mathlib.Core.Path.{_≡_, refl, sym, ap, _∙_}
-use mathlib.Core.Bool.{Bool, true, false, not, cond, _&&_}
+use mathlib.Core.Bool.{Bool, true, false}
 use mathlib.Core.List.{List, _∷_}
-use mathlib.Core.Logic.{_≢_, ⊎-elim}
-use lib.ListN.{length, getD, set, replicate, length-set, getD-replicate}
+use mathlib.Core.Logic.{⊎-elim}
+use lib.ListN.{length, set, replicate, getD-replicate}
 use lib.Dec.{leb, ltb, eqb}
 use borrow.Author.Tests.{lt-ltb, le-ltb, eq-eqb, ne-eqb}
 use native.Mathlib.Omega.{arith}
-use native.Mathlib.Numerals.{add-one}
 use native.Mathlib.Nat.{eq-or-lt-of-le}
 use Rattle.search.specs.Bools.{cases, tests}
 use Rattle.search.specs.First.{first, firstOf, found-first, loops as firsts}
@@ -19,11 +18,10 @@ use Rattle.search.specs.declared.Found.{Found}
 use Rattle.search.specs.declared.Found.the-variants.{At, Nothing}
 use Rattle.image.specs.declared.header.Header.{Header}
 use Rattle.image.specs.Layout.{headerWords, contentsAt, filledKind, payloadKind, header, keyAt, stored, setContents, setHeader, Sized, Slot, HeaderFits}
-use Rattle.image.specs.Laws.{length-stored, room-of, slot-after}
+use Rattle.image.specs.Laws.{slot-after}
 use Rattle.image.specs.Code.{slot, header-fits, Storing, storing-start, storing-next, storing-end}
 use Rattle.transient.specs.Layout.{retiredIn, setLast, setRetired, setWaiting, Notes, NoteOf}
 use Rattle.transient.specs.Laws.{notes-after}
-use Rattle.table.specs.declared.find.Lookup.{Lookup}
 use Rattle.table.specs.declared.find.Lookup.the-variants.{Newer, Live, Absent}
 use Rattle.table.specs.Find.{newerAt, newer, liveAt, liveSlot, lookedUp, lookup, freeAt, freeCount, room}
 use Rattle.table.specs.Fill.{setValue, filledSlot, joined, taken}

@@ -4,7 +4,7 @@ ghost use mathlib.Core.Path.{_≡_};
 ghost use Prim.Native.Nat.{_+_, _-_, _≤_};
 ghost use lib.ListN.{length, replicate};
 ghost use mathlib.Core.List.{_∷_};
-ghost use Rattle.image.specs.Layout.{stored, setContents, Slot};
+ghost use Rattle.image.specs.Layout.{stored, Slot};
 ghost use Rattle.transient.specs.Layout.{NoteOf};
 ghost use Rattle.table.specs.Fill.{setValue, filledSlot, taken, joined};
 ghost use Rattle.table.specs.Code.{SlotValue};
@@ -52,8 +52,8 @@ pub fn fill_zeros(img: &mut [u32], n: usize, w: usize, s: usize, h: Header, key:
     ensures { λ _. ⌜ now (img .exit) ≡ filledSlot (now (img .entry)) n w s h (key ∷ replicate (w - 1) 0) ⌝ }
 {
     set_key(img, n, w, s, key);
-    let b = 3 + Header::WORDS * n + w * s + 1;
-    store_zeros(img, b, w - 1);
+    let first = 3 + Header::WORDS * n + w * s + 1;
+    store_zeros(img, first, w - 1);
     image::header::set_header(img, n, s, h);
 }
 

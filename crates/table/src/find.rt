@@ -1,7 +1,7 @@
 // Searches over the table.
 use search::Found;
 ghost use mathlib.Core.Path.{_≡_};
-ghost use Prim.Native.Nat.{_+_, _≤_};
+ghost use Prim.Native.Nat.{_+_};
 ghost use Rattle.search.specs.Ring.{ringSlot, firstRound};
 ghost use Rattle.image.specs.Layout.{Slot, HeaderFits};
 ghost use Rattle.table.specs.Find.{newerAt, liveAt, liveSlot, lookup, freeAt, room};

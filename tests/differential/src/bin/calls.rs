@@ -39,7 +39,7 @@ fn main() {
     }
     let Test { calls, accepted, refusals, smallest, .. } = test;
     smallest.report(seed);
-    println!("{calls} calls, {accepted} accepted, refusals by number {refusals:?}, seed {seed}");
+    println!("{calls} calls, no difference, {accepted} accepted, refusals by number {refusals:?}, seed {seed}");
     assert!(REFUSALS.iter().all(|&refusal| refusals[refusal] >= 100), "too few of some refusal");
 }
 

@@ -1,0 +1,98 @@
+//! The cases that 01 works out for format and the calls on jobs, on the library. The clock moves by the
+//! simulator's hand. Usage: worked
+
+use differential::library::{change, compare, lengths, recover};
+use simulator::calls::{refused, simulate, Call, TICKED};
+use simulator::store::Store;
+
+const BEGIN: Call = Call::Begin { thread: 0 };
+const END: Call = Call::End { thread: 0 };
+
+fn main() {
+    let calls = sizes_out_of_range() + a_board_of_two();
+    println!("2 cases, {calls} calls");
+}
+
+/// "N 1, N 1,025, W 1, W 10, T 0 and T 17 decline with 1."
+fn sizes_out_of_range() -> usize {
+    let mut calls = 0;
+    for (slots, words, threads) in [(1, 2, 1), (1025, 2, 1), (2, 1, 1), (2, 10, 1), (2, 2, 0), (2, 2, 17)] {
+        assert!(lengths(slots, words, threads).contains(&0), "lengths for {slots}, {words}, {threads}");
+        let mut store = sized(slots, words, threads);
+        let value = vec![0; words as usize - 1];
+        calls += make(
+            &mut store,
+            &[
+                (Call::Format { slots, words }, 1),
+                (BEGIN, 1),
+                (END, 1),
+                (new(9, &value), 1),
+                (set(9, &value), 1),
+                (delete(9), 1),
+                (read(9), refused(1)),
+                (Call::ReadRefusal { thread: 0, key: 9 }, 1),
+                (Call::Recover, refused(1)),
+            ],
+        );
+    }
+    calls
+}
+
+/// "N 2, one job: a second new gives 13; deleting the first in a later epoch succeeds."
+fn a_board_of_two() -> usize {
+    let mut store = sized(2, 2, 1);
+    let in_epoch_2 = [
+        (Call::Format { slots: 2, words: 2 }, 0),
+        (BEGIN, 0),
+        (new(9, &[5]), 0),
+        (read(9), 10),
+        (new(8, &[6]), 13),
+        (END, 0),
+    ];
+    let in_epoch_3 = [
+        (BEGIN, 0),
+        (set(9, &[7]), 13),
+        (delete(9), 0),
+        (read(9), refused(10)),
+        (Call::ReadRefusal { thread: 0, key: 9 }, 10),
+        (END, 0),
+    ];
+    let calls = make(&mut store, &in_epoch_2);
+    while simulate(&mut store, &Call::Advance) != TICKED {}
+    calls + make(&mut store, &in_epoch_3)
+}
+
+/// Makes the calls and holds the replies of library and simulator to those that 01 names.
+fn make(store: &mut Store, calls: &[(Call, u64)]) -> usize {
+    for (call, wanted) in calls {
+        let library = if *call == Call::Recover { recover } else { change };
+        let reply = compare(store, call, library).unwrap_or_else(|what| panic!("{what}"));
+        assert_eq!(reply, *wanted, "{call:?} on {store:?}");
+    }
+    calls.len()
+}
+
+/// A store whose lengths and size words are these, in range or not, else as format leaves it.
+fn sized(slots: u32, words: u32, threads: u32) -> Store {
+    let mut image = vec![0; (3 + 3 * slots + words * slots) as usize];
+    image[..3].copy_from_slice(&[slots, words, 2]);
+    let mut transient = vec![0; (4 + threads + 3 * slots) as usize];
+    transient[..2].copy_from_slice(&[slots - 1, 1]);
+    Store { working: image.clone(), persistent: image, transient }
+}
+
+fn new(key: u32, value: &[u32]) -> Call {
+    Call::New { thread: 0, key, value: value.to_vec() }
+}
+
+fn set(key: u32, value: &[u32]) -> Call {
+    Call::Set { thread: 0, key, value: value.to_vec() }
+}
+
+fn delete(key: u32) -> Call {
+    Call::Delete { thread: 0, key }
+}
+
+fn read(key: u32) -> Call {
+    Call::Read { thread: 0, key }
+}

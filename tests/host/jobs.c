@@ -1,0 +1,87 @@
+/* The calls on jobs through the header: what a dispatch server does with one board, and what it is refused.
+   Usage: jobs */
+
+#include "board.h"
+
+#include <stdint.h>
+#include <stdio.h>
+#include <stdlib.h>
+#include <string.h>
+
+enum { SLOTS = 3, WORDS = 4, THREADS = 2, VALUE_WORDS = WORDS - 1 };
+
+_Static_assert(BOARD_NO_THREAD == 5 && BOARD_ALREADY_OPEN == 6 && BOARD_NOT_OPEN == 7 && BOARD_BAD_ARGUMENT == 8 &&
+                   BOARD_NEWER == 9 && BOARD_NO_JOB == 10 && BOARD_JOB_EXISTS == 11 && BOARD_NO_UID == 12 &&
+                   BOARD_FULL == 13,
+               "the header's refusals");
+
+static size_t calls, failed;
+
+static void same(const char *what, uint64_t found, uint64_t wanted)
+{
+    calls++;
+    if (found != wanted) {
+        failed++;
+        printf("%s: %llu, wanted %llu\n", what, (unsigned long long)found, (unsigned long long)wanted);
+    }
+}
+
+/* A block of exactly this many words, so that a checker of memory sees any access beside it. */
+static uint32_t *block(size_t words)
+{
+    uint32_t *start = malloc(words * sizeof *start);
+    if (start == NULL)
+        exit(2);
+    memset(start, 0xA5, words * sizeof *start);
+    return start;
+}
+
+int main(void)
+{
+    const size_t n = board_image_words(SLOTS, WORDS), tn = board_transient_words(SLOTS, THREADS);
+    same("the length of an image", n, 3 + 3 * SLOTS + WORDS * SLOTS);
+    same("the length of the notes", tn, 4 + THREADS + 3 * SLOTS);
+    uint32_t *w = block(n), *p = block(n), *t = block(tn);
+    const uint32_t first[VALUE_WORDS] = {11, 12, 13}, second[VALUE_WORDS] = {21, 0, 23};
+
+    same("a call before format", board_begin(w, n, p, n, t, tn, 0), BOARD_SIZES);
+    same("format", board_format(w, n, p, n, t, tn, SLOTS, WORDS), 0);
+    same("format with a wrong length", board_format(w, n - 1, p, n, t, tn, SLOTS, WORDS), BOARD_SIZES);
+
+    uint32_t *fresh = block(n);
+    memcpy(fresh, p, n * sizeof *p);
+    same("new outside an operation", board_new(w, n, p, n, t, tn, 0, 7, first, VALUE_WORDS), BOARD_NOT_OPEN);
+    same("begin", board_begin(w, n, p, n, t, tn, 0), 0);
+    same("begin again", board_begin(w, n, p, n, t, tn, 0), BOARD_ALREADY_OPEN);
+    same("begin of no thread", board_begin(w, n, p, n, t, tn, THREADS), BOARD_NO_THREAD);
+    same("new", board_new(w, n, p, n, t, tn, 0, 7, first, VALUE_WORDS), 0);
+    same("new again", board_new(w, n, p, n, t, tn, 0, 7, second, VALUE_WORDS), BOARD_JOB_EXISTS);
+    same("new with a short value", board_new(w, n, p, n, t, tn, 0, 8, second, VALUE_WORDS - 1), BOARD_BAD_ARGUMENT);
+    same("a second job", board_new(w, n, p, n, t, tn, 0, 8, second, VALUE_WORDS), 0);
+    same("a third job", board_new(w, n, p, n, t, tn, 0, 9, second, VALUE_WORDS), BOARD_FULL);
+
+    uint64_t at = board_read(w, n, p, n, t, tn, 1, 7);
+    same("where the value stands", at, 3 + 3 * SLOTS + 1);
+    same("read, its refusal", board_read_refusal(w, n, p, n, t, tn, 1, 7), 0);
+    if (at + VALUE_WORDS <= n)
+        same("the value that is read", (uint64_t)memcmp(w + at, first, sizeof first), 0);
+    same("set", board_set(w, n, p, n, t, tn, 0, 7, second, VALUE_WORDS), 0);
+    same("the place after set", board_read(w, n, p, n, t, tn, 1, 7), at);
+    if (at + VALUE_WORDS <= n)
+        same("the value after set", (uint64_t)memcmp(w + at, second, sizeof second), 0);
+
+    same("delete", board_delete(w, n, p, n, t, tn, 0, 7), 0);
+    same("delete again", board_delete(w, n, p, n, t, tn, 0, 7), BOARD_NO_JOB);
+    same("read of no job", board_read(w, n, p, n, t, tn, 0, 7), BOARD_REFUSED + BOARD_NO_JOB);
+    same("its refusal", board_read_refusal(w, n, p, n, t, tn, 0, 7), BOARD_NO_JOB);
+    same("end", board_end(w, n, p, n, t, tn, 0), 0);
+    same("end again", board_end(w, n, p, n, t, tn, 0), BOARD_NOT_OPEN);
+    same("the persistent image", (uint64_t)memcmp(p, fresh, n * sizeof *p), 0);
+
+    free(fresh);
+    free(w);
+    free(p);
+    free(t);
+    printf("%zu answers, %zu wrong\n", calls, failed);
+    return failed > 0;
+}
