@@ -119,10 +119,18 @@ module _ {n w t : ℕ} {start : Jobs} {st : Store} {p : Plain} (g : Good n w t s
         waiting-later q = let z : e + 1 + 1 ≡ e + 2 = omega arith in rw z (waiting-again tr′ n t e s ∙ joined-in j)
 
   -- ---- all else
-  pub good-change : {wk′ tr′ : List ℕ} {row : List Change} → Image n w (p .clock) wk′ → NotesKept (st .transient) tr′ t
-      → Inv (stateOf n w t start (store wk′ (st .persistent) tr′) (record { clock = p .clock; operation = p .operation; row = row; ended = p .ended; durable = p .durable }))
-      → Good n w t start (store wk′ (st .persistent) tr′) (record { clock = p .clock; operation = p .operation; row = row; ended = p .ended; durable = p .durable })
-  good-change i z v =
+  -- the reference map with another row
+  abbrev pub rowed : List Change → Plain
+  rowed row = record { clock = p .clock; operation = p .operation; row = row; ended = p .ended; durable = p .durable }
+
+  -- the state that a change leaves: other slots, a next uid, another row
+  abbrev pub changedState : (ℕ → Slot) → ℕ → List Change → State
+  changedState f u row =
+      record { slots = f; clock = p .clock; uid = u; place = progress n (placePhase (st .transient)) (placeSlot (st .transient)); start = start; row = row }
+
+  pub good-change : {wk′ tr′ : List ℕ} {u : ℕ} {row row′ : List Change} → Image n w (p .clock) wk′ → NotesKept (st .transient) tr′ t → nextUidOf tr′ ≡ u → row′ ≡ row
+      → Inv (changedState (view (store wk′ (st .persistent) tr′) n w t (p .clock)) u row) → Good n w t start (store wk′ (st .persistent) tr′) (rowed row′)
+  good-change i z a b v =
       record {
         clock-hi = g .clock-hi;
         working = i;
@@ -130,5 +138,11 @@ module _ {n w t : ℕ} {start : Jobs} {st : Store} {p : Plain} (g : Good n w t s
         notes = notes-after (z .long) (g .notes);
         opens = let o = opens-after z (g .opens) in record { same = o .same; least = o .least; low = o .low; high = o .high; quiet = o .quiet };
         past = record { ended-hi = g .past .ended-hi; durable-hi = g .past .durable-hi };
-        inv = v;
+        inv = rw (a, b, z .phase, z .slot) v;
       }
+
+  -- an entry of the row by the operation's epoch in the notes
+  pub row-epoch : (act : Act) (thread : ℕ) (k : Name) (v : Value) → thread < t
+      → p .row ++ (record { epoch = p .operation thread; act = act; name = k; value = v } ∷ [])
+      ≡ p .row ++ (record { epoch = openEpoch (st .transient) thread; act = act; name = k; value = v } ∷ [])
+  row-epoch act thread k v h = rw (g .opens .same thread h)

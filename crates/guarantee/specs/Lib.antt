@@ -6,3 +6,10 @@ pub mod Notes
 pub mod Images
 pub mod Frame
 pub mod Lookups
+pub mod Changing
+pub mod Making
+pub mod Superseding
+pub mod Replacing
+pub mod Opening
+pub mod Advancing
+pub mod Running

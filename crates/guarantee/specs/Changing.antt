@@ -1,0 +1,82 @@
+-- New, set and delete keep the invariant.
+use Prim.Native.Nat.{ℕ, suc, _+_, _-_, _≤_, _<_}
+use mathlib.Core.Path.{_≡_, refl, sym, ap, _∙_}
+use mathlib.Core.Bool.{Bool, true, false, not, cond, _||_}
+use mathlib.Core.Logic.{_≢_, _⊎_, inl, inr, ⊎-elim}
+use mathlib.Core.List.{List, [], _∷_, _++_}
+use lib.ListN.{length, getD, drop, replicate, length-replicate}
+use lib.Dec.{leb, ltb, eqb}
+use borrow.Author.Tests.{eqb-true, eqb-false, leb-true, leb-false, ltb-true, ltb-false, not-true, not-false}
+use native.Mathlib.Omega.{arith}
+use Rattle.search.specs.Bools.{cases, or-left, or-right}
+use Rattle.search.specs.declared.Found.{Found}
+use Rattle.search.specs.declared.Found.the-variants.{At, Nothing}
+use Rattle.reply.specs.declared.Check.{Check}
+use Rattle.reply.specs.declared.Check.the-variants.{Accepted, Refused}
+use Rattle.reply.specs.declared.Refusal.{Refusal}
+use Rattle.reply.specs.declared.Refusal.the-variants.{NoThread, NotOpen, BadArgument}
+use Rattle.image.specs.Layout.{header, slotsOf, widthOf}
+use Rattle.transient.specs.Store.{Store, store}
+use Rattle.transient.specs.Layout.{lastTaken, nextUidOf, openEpoch}
+use Rattle.transient.specs.Entry.{threads, entryCheck}
+use Rattle.changes.specs.Code.{entry-passed}
+use Rattle.changes.specs.Job.{badJob, operating}
+use Rattle.changes.specs.Changed.{Changed, changed, refused, declines, Answer, entered, onStore}
+use Rattle.crash.specs.Reference.{Jobs, Act, Value}
+use Rattle.guarantee.specs.Trace.{Plain, toldChange}
+use Rattle.guarantee.specs.Good.{Good}
+
+-- what a call's part leaves is good
+pub record Fine (n w t : ℕ) (start : Jobs) (l : List ℕ) (p : Plain) (act : Act) (thread key : ℕ) (v : Value) (ch : Changed) : Type 0 where
+  pub good : Good n w t start (store (ch .working) l (ch .transient)) (toldChange (ch .reply) act thread key v p)
+
+module _ {n w t : ℕ} {start : Jobs} {wk l tr : List ℕ} {p : Plain} {act : Act} {thread key : ℕ} {v : Value} (g : Good n w t start (store wk l tr) p) where
+  pub fine-refused : (r : Refusal) → Fine n w t start l p act thread key v (refused r wk tr)
+  fine-refused r = record { good = g }
+
+  -- a condition that refuses, or what follows
+  pub fine-declines : (b : Bool) (r : Refusal) (next : Changed) → (b ≡ false → Fine n w t start l p act thread key v next)
+      → Fine n w t start l p act thread key v (declines b r wk tr next)
+  fine-declines true r next h = record { good = g }
+  fine-declines false r next h = h refl
+
+-- a whole call, from its part after refusals 1 and 2
+pub fine-call : {n w t : ℕ} {start : Jobs} {st : Store} {p : Plain} {act : Act} {thread key : ℕ} {v : Value} (call : List ℕ → List ℕ → ℕ → ℕ → ℕ → Changed)
+    → Good n w t start st p
+    → (entryCheck st ≡ Accepted → Fine n w t start (st .persistent) p act thread key v (call (st .working) (st .transient) n w t))
+    → Good n w t start (onStore st call .store) (toldChange (onStore st call .reply) act thread key v p)
+fine-call {n} {w} {t} {start} {st} {p} {act} {thread} {key} {v} call g h = go (entryCheck st) refl
+  where
+    sizes : call (st .working) (st .transient) (slotsOf (st .working)) (widthOf (st .working)) (threads st) ≡ call (st .working) (st .transient) n w t
+    sizes =
+        let q : threads st ≡ t = rw (g .notes .long, g .working .slots-is) (omega arith) in
+        rw (q, g .working .slots-is, g .working .width-is)
+
+    go : (k : Check) → entryCheck st ≡ k
+        → Good n w t start (entered k st (call (st .working) (st .transient) (slotsOf (st .working)) (widthOf (st .working)) (threads st)) .store)
+        (toldChange (entered k st (call (st .working) (st .transient) (slotsOf (st .working)) (widthOf (st .working)) (threads st)) .reply) act thread key v p)
+    go (Refused r) e = g
+    go Accepted e = rw sizes (h e .good)
+
+-- the last slot taken is one of the table
+pub last-below : {n w t : ℕ} {start : Jobs} {st : Store} {p : Plain} → Good n w t start st p → entryCheck st ≡ Accepted → lastTaken (st .transient) < n
+last-below {st = st} g a = rw (g .working .slots-is) at (entry-passed (st .working) (st .persistent) (st .transient) refl a .inside .last)
+
+-- 5, 7 and 8
+module _ {n w t : ℕ} {start : Jobs} {wk l tr : List ℕ} {p : Plain} {act : Act} {thread key : ℕ} {v : Value} (g : Good n w t start (store wk l tr) p) where
+  pub operating-fine : (bad : Bool) (next : Changed)
+      → (thread < t → openEpoch tr thread ≢ 0 → bad ≡ false → Fine n w t start l p act thread key v next)
+      → Fine n w t start l p act thread key v (operating wk tr t thread bad next)
+  operating-fine bad next h =
+      fine-declines g (leb t thread) NoThread _
+      (λ a. fine-declines g (eqb (openEpoch tr thread) 0) NotOpen _
+      (λ b. fine-declines g bad BadArgument next
+      (λ c. h (leb-false t thread a) (eqb-false _ 0 b) c)))
+
+pub bad-key : (w key words : ℕ) → badJob w key words ≡ false → key ≢ 0
+unfolding badJob
+bad-key w key words c = eqb-false key 0 (or-left (eqb key 0) _ c)
+
+pub bad-words : (w key words : ℕ) → 2 ≤ w → badJob w key words ≡ false → words + 1 ≡ w
+unfolding badJob
+bad-words w key words h c = let q = eqb-true words (w - 1) (not-false _ (or-right (eqb key 0) _ c)) in omega arith

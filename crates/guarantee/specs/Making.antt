@@ -1,0 +1,96 @@
+-- New keeps the invariant.
+use Prim.Native.Nat.{ℕ, suc, _+_, _-_, _≤_, _<_}
+use mathlib.Core.Path.{_≡_, refl, sym, ap, _∙_}
+use mathlib.Core.Bool.{Bool, true, false, not, _||_}
+use mathlib.Core.Logic.{_≢_}
+use mathlib.Core.List.{List, [], _∷_, _++_}
+use lib.ListN.{length}
+use lib.Dec.{leb, ltb, eqb}
+use borrow.Author.Tests.{eqb-true, eqb-false, leb-false, ltb-false, not-false}
+use native.Mathlib.Omega.{arith}
+use Rattle.search.specs.Bools.{or-left, or-right}
+use Rattle.search.specs.declared.Found.{Found}
+use Rattle.search.specs.declared.Found.the-variants.{At, Nothing}
+use Rattle.reply.specs.declared.Check.the-variants.{Accepted}
+use Rattle.reply.specs.declared.Refusal.the-variants.{NoThread, NotOpen, BadArgument, Newer, JobExists, NoUid, Full}
+use Rattle.image.specs.Layout.{freshHeader}
+use Rattle.transient.specs.Store.{Store, store}
+use Rattle.transient.specs.Layout.{lastTaken, nextUidOf, openEpoch, setNextUid}
+use Rattle.transient.specs.Entry.{entryCheck}
+use Rattle.table.specs.declared.find.Lookup.{Lookup}
+use Rattle.table.specs.declared.find.Lookup.the-variants as look
+use Rattle.table.specs.Find.{lookup, room, freeAt}
+use Rattle.table.specs.Fill.{filledSlot, taken}
+use Rattle.changes.specs.Changed.{Changed, refused, declines}
+use Rattle.changes.specs.Code.{entry-passed}
+use Rattle.changes.specs.Job.{badJob, operating}
+use Rattle.changes.specs.New.{newAt, newIn, newAbsent, newLooked, newOpen, made, new}
+use Rattle.crash.specs.Reference as ref
+use Rattle.crash.specs.Reference.{Jobs, Value}
+use Rattle.crash.specs.Slots.{Inv}
+use Rattle.crash.specs.New.{new-inv}
+use Rattle.guarantee.specs.Trace.{Plain, toldChange}
+use Rattle.guarantee.specs.Good.{stateOf, Good}
+use Rattle.guarantee.specs.Notes.{joined-phase, joined-slot, made-joins}
+use Rattle.guarantee.specs.Images.{wrote-image, filled-wrote}
+use Rattle.guarantee.specs.Frame.{operation-of, joined-notes, change-put, change-joins, good-change, row-epoch}
+use Rattle.guarantee.specs.Lookups.{Missing, absent-says, room-says, free-says, no-later-of, no-live-of}
+use Rattle.guarantee.specs.Changing.{Fine, fine-refused, fine-declines, fine-call, last-below, operating-fine, bad-key, bad-words}
+
+module _ {n w t : ℕ} {start : Jobs} {wk l tr : List ℕ} {p : Plain} (thread key : ℕ) (v : Value) (g : Good n w t start (store wk l tr) p)
+    (within : thread < t) (begun : openEpoch tr thread ≢ 0) (named : key ≢ 0) (words : length v + 1 ≡ w) where
+  abbrev e : ℕ
+  e = openEpoch tr thread
+
+  abbrev Good′ : Changed → Type 0
+  Good′ = Fine n w t start l p ref.made thread key v
+
+  made-fine : (s : ℕ) → s < n → freeAt wk s ≡ true → Missing wk tr n w t key e → nextUidOf tr ≤ 4000000000 → Good′ (newAt wk tr n w t e s key v)
+  unfolding newAt
+  made-fine s h f m u =
+      let a = filled-wrote (g .working .sized) h (freshHeader e (nextUidOf tr)) (key ∷ v) (omega (arith, words)) in
+      let j = made-joins (g .notes) e s (nextUidOf tr + 1) h in
+      let up : nextUidOf tr + 1 ≡ suc (nextUidOf tr) = omega arith in
+      record {
+        good = good-change g (wrote-image a (g .working)) (joined-notes j) (j .uid ∙ up) (row-epoch g ref.made thread key v within)
+            (new-inv (g .inv) record {
+              operation = operation-of g thread within begun;
+              joins = change-joins g a j h;
+              free = free-says g h f;
+              named = named;
+              uid-hi = u;
+              no-live = no-live-of g (m .none);
+              no-later = no-later-of g (m .newest);
+              put = change-put g a j h;
+            });
+      }
+
+  -- 12 and 13
+  absent-fine : lastTaken tr < n → Missing wk tr n w t key e → Good′ (newAbsent wk tr n w t e key v)
+  unfolding newAbsent
+  absent-fine h m =
+      fine-declines g (ltb 4000000000 (nextUidOf tr)) NoUid _
+      (λ q. go (ltb-false 4000000000 (nextUidOf tr) q) (room wk n (lastTaken tr) 2) refl)
+    where
+      go : nextUidOf tr ≤ 4000000000 → (f : Found) → room wk n (lastTaken tr) 2 ≡ f → Good′ (newIn f wk tr n w t e key v)
+      go u (At s) q = let b = room-says wk n (lastTaken tr) 2 s h q in made-fine s (b .0) (b .1) m u
+      go u Nothing q = fine-refused g Full
+
+  -- 9 and 11
+  pub opened-fine : lastTaken tr < n → Good′ (newOpen wk tr n w t e key v)
+  unfolding newOpen
+  opened-fine h = go (lookup wk tr n w t key e) refl
+    where
+      go : (k : Lookup) → lookup wk tr n w t key e ≡ k → Good′ (newLooked k wk tr n w t e key v)
+      go look.Newer q = fine-refused g Newer
+      go (look.Live s) q = fine-refused g JobExists
+      go look.Absent q = absent-fine h (absent-says wk tr n w t key e q)
+
+-- 5, 7 and 8
+pub new-good : {n w t : ℕ} {start : Jobs} {st : Store} {p : Plain} (thread key : ℕ) (v : Value) → Good n w t start st p
+    → Good n w t start (new st thread key v .store) (toldChange (new st thread key v .reply) ref.made thread key v p)
+unfolding new made
+new-good {n} {w} {t} {start} {st} {p} thread key v g =
+    fine-call (λ wk tr n w t. made wk tr n w t thread key v) g
+    (λ a. operating-fine g (badJob w key (length v)) _
+    (λ h b c. opened-fine thread key v g h b (bad-key w key (length v) c) (bad-words w key (length v) (g .working .sized .sizes .width-lo) c) (last-below g a)))

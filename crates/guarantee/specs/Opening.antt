@@ -1,0 +1,146 @@
+-- Begin and end keep the invariant: they change one thread's open epoch, which no slot sees.
+use Prim.Native.Nat.{ℕ, suc, _+_, _≤_, _<_}
+use mathlib.Core.Path.{_≡_, refl, sym, ap, _∙_, fun-ext}
+use mathlib.Core.Bool.{Bool, true, false, not, cond}
+use mathlib.Core.Logic.{_≢_, _⊎_, inl, inr, ⊎-elim}
+use mathlib.Core.List.{List, _∷_, List·Memᴰ, List·Memᴰ·cases-cons}
+use lib.ListN.{getD}
+use lib.Dec.{leb, eqb}
+use borrow.Author.Tests.{eqb-false, leb-false, eq-eqb, ne-eqb}
+use native.Mathlib.Omega.{arith}
+use native.Mathlib.Decide.{ℕ-discrete}
+use Rattle.reply.specs.declared.Check.{Check}
+use Rattle.reply.specs.declared.Check.the-variants.{Accepted, Refused}
+use Rattle.reply.specs.declared.Refusal.{Refusal}
+use Rattle.reply.specs.declared.Refusal.the-variants.{NoThread, AlreadyOpen, NotOpen}
+use Rattle.image.specs.Layout.{slotsOf, widthOf, clockOf}
+use Rattle.transient.specs.Store.{Store, store}
+use Rattle.transient.specs.Layout.{nextUidOf, placePhase, placeSlot, openEpoch, retiredIn, waitingAt, isWaiting, setOpen, Notes}
+use Rattle.transient.specs.Laws.{length-setOpen, word-setOpen, open-same, notes-after}
+use Rattle.transient.specs.Entry.{threads, entryCheck}
+use Rattle.changes.specs.Changed.{Changed, changed, refused, declines, Answer, entered, onStore}
+use Rattle.changes.specs.Open.{begun, ended, begin, end}
+use Rattle.epochs.specs.Advance.{underway}
+use Rattle.crash.specs.Reference.{Jobs}
+use Rattle.crash.specs.Slots.{Slot, Inv}
+use Rattle.guarantee.specs.Trace.{Plain, opening, toldBegin, toldEnd}
+use Rattle.guarantee.specs.View.{slotOf, view, same-view}
+use Rattle.guarantee.specs.Good.{stateOf, Opens, Past, Good}
+use Rattle.guarantee.specs.Notes.{waiting-same-word}
+
+-- ---- an open epoch set
+module _ {n w t : ℕ} {start : Jobs} {wk l tr : List ℕ} {p : Plain} (thread e : ℕ) (ended′ : List ℕ) (g : Good n w t start (store wk l tr) p) (within : thread < t)
+    (least : 1 ≤ e → 2 ≤ e) (low : 1 ≤ e → p .clock ≤ e) (high : e ≤ p .clock)
+    (bounds : (d : ℕ) → List·Memᴰ d ended′ → d ≤ p .clock) where
+  abbrev tr′ : List ℕ
+  tr′ = setOpen tr thread e
+
+  abbrev p′ : Plain
+  p′ = record { clock = p .clock; operation = opening p thread e; row = p .row; ended = ended′; durable = p .durable }
+
+  open-other : (u : ℕ) → u ≢ thread → openEpoch tr′ u ≡ openEpoch tr u
+  open-other u d = word-setOpen tr thread e (4 + u) (λ q. d (omega arith))
+
+  view-is : view (store wk l tr′) n w t (p .clock) ≡ view (store wk l tr) n w t (p .clock)
+  view-is =
+      fun-ext (λ m. same-view (store wk l tr) (store wk l tr′) n w t (p .clock) m
+      (λ h. rw (
+        word-setOpen tr thread e (4 + t + m) (λ q. omega arith),
+        waiting-same-word tr tr′ n t (p .clock) m (word-setOpen tr thread e (waitingAt n t (p .clock) m) (λ q. omega arith)),
+        waiting-same-word tr tr′ n t (p .clock + 1) m (word-setOpen tr thread e (waitingAt n t (p .clock + 1) m) (λ q. omega arith)),
+      )))
+
+  phase-is : placePhase tr′ ≡ placePhase tr
+  phase-is = word-setOpen tr thread e 2 (λ q. omega arith)
+
+  -- what holds of this thread and of the others holds of all
+  each : (P : ℕ → ℕ → ℕ → Type 0) → P thread e e → ((u : ℕ) → u < t → u ≢ thread → P u (openEpoch tr u) (p .operation u))
+      → (u : ℕ) → u < t → P u (openEpoch tr′ u) (p′ .operation u)
+  each P here there u h = elim (ℕ-discrete u thread) [
+    | yes q ↦ rw (q, open-same (g .notes) thread e within, eq-eqb thread thread refl) here
+    | no q ↦ rw (open-other u q, ne-eqb u thread q) (there u h q)
+  ]
+
+  opens-set : Opens t tr′ p′
+  unfolding underway
+  opens-set =
+      let o = g .opens in
+      record {
+        same = each (λ u a b. a ≡ b) refl (λ u h q. o .same u h);
+        least = each (λ u a b. 1 ≤ a → 2 ≤ a) least (λ u h q. o .least u h);
+        low = each (λ u a b. 1 ≤ a → p .clock ≤ a + 1) (λ h. omega (arith, low h)) (λ u h q. o .low u h);
+        high = each (λ u a b. a ≤ p .clock) high (λ u h q. o .high u h);
+        quiet = rw phase-is (each (λ u a b. a + 1 ≡ p .clock → underway tr ≡ false) (λ q. never-below q) (λ u h q. o .quiet u h));
+      }
+    where
+      never-below : e + 1 ≡ p .clock → underway tr ≡ false
+      never-below q = elim (ℕ-discrete e 0) [
+        | yes z ↦ absurd (omega (arith, g .inv .clock-lo))
+        | no z ↦ absurd (omega (arith, low (omega arith)))
+      ]
+
+  pub open-good : Good n w t start (store wk l tr′) p′
+  open-good =
+      record {
+        clock-hi = g .clock-hi;
+        working = g .working;
+        persistent = g .persistent;
+        notes = notes-after (length-setOpen tr thread e) (g .notes);
+        opens = opens-set;
+        past = record { ended-hi = bounds; durable-hi = g .past .durable-hi };
+        inv = rw (view-is, phase-is, word-setOpen tr thread e 3 (λ q. omega arith), word-setOpen tr thread e 1 (λ q. omega arith)) (g .inv);
+      }
+
+-- ---- the calls
+module _ {n w t : ℕ} {start : Jobs} {st : Store} {p : Plain} (thread : ℕ) (g : Good n w t start st p) where
+  threads-is : threads st ≡ t
+  threads-is = rw (g .notes .long, g .working .slots-is) (omega arith)
+
+  abbrev told : (Check → ℕ → Plain → Plain) → Changed → Type 0
+  told tell ch = Good n w t start (store (ch .working) (st .persistent) (ch .transient)) (tell (ch .reply) thread p)
+
+  -- a condition that refuses, or what follows
+  begun-declines : (b : Bool) (r : Refusal) (next : Changed) → (b ≡ false → told toldBegin next) → told toldBegin (declines b r (st .working) (st .transient) next)
+  begun-declines true r next h = g
+  begun-declines false r next h = h refl
+
+  ended-declines : (b : Bool) (r : Refusal) (next : Changed) → (b ≡ false → told toldEnd next) → told toldEnd (declines b r (st .working) (st .transient) next)
+  ended-declines true r next h = g
+  ended-declines false r next h = h refl
+
+  begun-fine : told toldBegin (begun (st .working) (st .transient) t thread)
+  unfolding begun
+  begun-fine =
+      begun-declines (leb t thread) NoThread _
+      (λ a. begun-declines (not (eqb (openEpoch (st .transient) thread) 0)) AlreadyOpen _
+      (λ b. rw (g .working .clock-is) (open-good thread (p .clock) (p .ended) g (leb-false t thread a)
+      (λ h. g .inv .clock-lo) (λ h. omega arith) (omega arith) (g .past .ended-hi))))
+
+  ended-fine : told toldEnd (ended (st .working) (st .transient) t thread)
+  unfolding ended
+  ended-fine =
+      ended-declines (leb t thread) NoThread _
+      (λ a. ended-declines (eqb (openEpoch (st .transient) thread) 0) NotOpen _
+      (λ b. open-good thread 0 (p .operation thread ∷ p .ended) g (leb-false t thread a)
+      (λ h. absurd (omega arith)) (λ h. absurd (omega arith)) (omega arith) (bound (leb-false t thread a))))
+    where
+      bound : thread < t → (d : ℕ) → List·Memᴰ d (p .operation thread ∷ p .ended) → d ≤ p .clock
+      bound h d m = ⊎-elim (λ q. omega (arith, q, g .opens .same thread h, g .opens .high thread h)) (λ q. g .past .ended-hi d q) (List·Memᴰ·cases-cons m)
+
+  pub begin-good : Good n w t start (begin st thread .store) (toldBegin (begin st thread .reply) thread p)
+  unfolding begin
+  begin-good = go (entryCheck st)
+    where
+      go : (k : Check) → Good n w t start (entered k st (begun (st .working) (st .transient) (threads st) thread) .store)
+          (toldBegin (entered k st (begun (st .working) (st .transient) (threads st) thread) .reply) thread p)
+      go (Refused r) = g
+      go Accepted = rw threads-is begun-fine
+
+  pub end-good : Good n w t start (end st thread .store) (toldEnd (end st thread .reply) thread p)
+  unfolding end
+  end-good = go (entryCheck st)
+    where
+      go : (k : Check) → Good n w t start (entered k st (ended (st .working) (st .transient) (threads st) thread) .store)
+          (toldEnd (entered k st (ended (st .working) (st .transient) (threads st) thread) .reply) thread p)
+      go (Refused r) = g
+      go Accepted = rw threads-is ended-fine
