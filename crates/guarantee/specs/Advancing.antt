@@ -1,13 +1,103 @@
-use Prim.Native.Nat.{ℕ}
+-- Advance keeps the invariant of a run: a declined call changes nothing, an accepted one makes one step.
+use Prim.Native.Nat.{ℕ, _+_, _<_}
+use mathlib.Core.Path.{_≡_, refl, ap, _∙_}
+use mathlib.Core.Bool.{Bool, not, _&&_}
+use lib.Dec.{eqb}
+use borrow.Author.Tests.{eqb-false, eq-eqb, ne-eqb, not-false}
+use native.Mathlib.Omega.{arith}
+use native.Mathlib.Decide.{ℕ-discrete}
+use Rattle.search.specs.Bools.{never, not-is-true, and-both}
+use Rattle.search.specs.Some.{some, some-at}
+use Rattle.reply.specs.declared.Check.{Check}
+use Rattle.reply.specs.declared.Check.the-variants.{Accepted, Refused}
+use Rattle.reply.specs.declared.Refusal.the-variants.{Sizes, Clock, StillOpen, LastEpoch}
+use Rattle.reply.specs.Refusals.{refuse, andThen, not-refused}
+use Rattle.image.specs.Layout.{slotsOf}
 use Rattle.transient.specs.Store.{Store}
-use Rattle.epochs.specs.Advance.{advance}
-use Rattle.epochs.specs.WriteBack.{writeBack}
+use Rattle.transient.specs.Layout.{placePhase, placeSlot, openEpoch}
+use Rattle.transient.specs.Entry.{sizesFit, clocksFit, threads, entryCheck}
+use Rattle.transient.specs.Code.{sizing}
+use Rattle.epochs.specs.Advance.{Stepped, step, placeOf, underway, openBelow, advanceCheck, stepping, advance}
 use Rattle.crash.specs.Reference.{Jobs}
+use Rattle.crash.specs.Slots.{Place}
 use Rattle.guarantee.specs.Trace.{Plain, toldAdvance}
+use Rattle.guarantee.specs.View.{progress}
 use Rattle.guarantee.specs.Good.{Good}
+use Rattle.guarantee.specs.Stepping.{progress-one, progress-two, progress-three, progress-four, progress-none, Reached, Ready}
+use Rattle.guarantee.specs.Ticking.{Fine, tick-good}
+use Rattle.guarantee.specs.Flushing.{accepted-both, flush-good, head-good}
+use Rattle.guarantee.specs.Reclaiming.{reclaim-good}
 
-pub advance-good : {n w t : ℕ} {start : Jobs} {st : Store} {p : Plain} → Good n w t start st p → Good n w t start (advance st .store) (toldAdvance (advance st .reply) p)
-advance-good g = ?a
+-- ---- one step, by the phase
+module _ {n w t : ℕ} {start : Jobs} {st : Store} {p : Plain} (y : Ready n w t start st p) (k : placeSlot (st .transient) < n) where
+  abbrev phase : ℕ
+  phase = placePhase (st .transient)
 
-pub write-back-good : {n w t : ℕ} {start : Jobs} {st : Store} {p : Plain} (slot line : ℕ) → Good n w t start st p → Good n w t start (writeBack st slot line .store) p
-write-back-good slot line g = ?b
+  abbrev slot : ℕ
+  slot = placeSlot (st .transient)
+
+  placed : {q : Place} → progress n phase slot ≡ q → Reached n w t start st p q
+  placed e = rw e at (y .good .inv)
+
+  in-phase : {q : Place} (j : ℕ) → phase ≡ j → progress n j slot ≡ q → Reached n w t start st p q
+  in-phase j e d = placed (ap (λ i. progress n i slot) e ∙ d)
+
+  step-good : Fine n w t start p (step (st .working) (st .persistent) (st .transient) n w t (p .clock) (placeOf (st .transient)))
+  unfolding step
+  step-good = elim (ℕ-discrete phase 1) [
+    | yes a ↦ rw (eq-eqb phase 1 a) (reclaim-good y slot (in-phase 1 a (progress-one n slot)))
+    | no a ↦ rw (ne-eqb phase 1 a) (elim (ℕ-discrete phase 2) [
+      | yes b ↦ rw (eq-eqb phase 2 b) (flush-good y slot (in-phase 2 b (progress-two n slot)))
+      | no b ↦ rw (ne-eqb phase 2 b) (elim (ℕ-discrete phase 3) [
+        | yes c ↦ rw (eq-eqb phase 3 c) (head-good y slot k (in-phase 3 c (progress-three n slot)))
+        | no c ↦ rw (ne-eqb phase 3 c) (elim (ℕ-discrete phase 4) [
+          | yes d ↦ rw (eq-eqb phase 4 d) (tick-good y (in-phase 4 d (progress-four n slot)))
+          | no d ↦ rw (ne-eqb phase 4 d) (reclaim-good y 0 (placed (progress-none n phase slot a b c d)))
+        ])
+      ])
+    ])
+  ]
+
+-- ---- the checks
+-- refusal 1 passed: the place's slot is one of the table
+place-below : (st : Store) → entryCheck st ≡ Accepted → placeSlot (st .transient) < slotsOf (st .working)
+unfolding entryCheck
+place-below st a =
+    let fit = sizesFit (st .working) (st .persistent) (st .transient) in
+    let clocks = refuse (not (clocksFit (st .working) (st .persistent) (st .transient) (threads st))) Clock Accepted in
+    sizing (st .working) (st .persistent) (st .transient) refl (not-false fit (not-refused (not fit) Sizes clocks a .0)) .place
+
+module _ {n w t : ℕ} {start : Jobs} {st : Store} {p : Plain} (g : Good n w t start st p) where
+  -- refusals 14 and 15 passed
+  ready : advanceCheck (st .transient) t (p .clock) ≡ Accepted → Ready n w t start st p
+  unfolding advanceCheck openBelow
+  ready e =
+      let below : ℕ → Bool = λ u. eqb (openEpoch (st .transient) u + 1) (p .clock) in
+      let last = eqb (p .clock) 4000000000 in
+      let a = not-refused (not (underway (st .transient)) && some below t) StillOpen (refuse last LastEpoch Accepted) e in
+      let top = eqb-false (p .clock) 4000000000 (not-refused last LastEpoch Accepted (a .1) .0) in
+      record {
+        good = g;
+        quiet = λ u h q. never _ (and-both (not-is-true (g .opens .quiet u h q)) (some-at below t u h (eq-eqb _ _ q))) (a .0);
+        clock-top = omega (arith, g .clock-hi);
+      }
+
+  threads-is : threads st ≡ t
+  threads-is = omega (arith, g .notes .long, g .working .slots-is)
+
+  -- ---- the call
+  abbrev check : Check
+  check = andThen (entryCheck st) (advanceCheck (st .transient) t (p .clock))
+
+  abbrev next : Stepped
+  next = step (st .working) (st .persistent) (st .transient) n w t (p .clock) (placeOf (st .transient))
+
+  pub advance-good : Good n w t start (advance st .store) (toldAdvance (advance st .reply) p)
+  unfolding advance
+  advance-good = rw (threads-is, g .working .slots-is, g .working .width-is, g .working .clock-is) (go check refl)
+    where
+      go : (k : Check) → check ≡ k → Good n w t start (stepping k st next .store) (toldAdvance (stepping k st next .reply) p)
+      go (Refused r) e = g
+      go Accepted e =
+          let a = accepted-both (entryCheck st) _ e in
+          step-good (ready (a .1)) (rw (g .working .slots-is) at (place-below st (a .0)))

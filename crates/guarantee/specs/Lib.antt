@@ -1,5 +1,7 @@
 pub mod Trace
 pub mod Promise
+pub mod Theorem
+pub mod Worked
 pub mod View
 pub mod Good
 pub mod Notes
@@ -11,5 +13,11 @@ pub mod Making
 pub mod Superseding
 pub mod Replacing
 pub mod Opening
+pub mod Stepping
+pub mod Ticking
+pub mod Flushing
+pub mod Reclaiming
 pub mod Advancing
 pub mod Running
+pub mod Starting
+pub mod Cutting

@@ -18,7 +18,8 @@ use Rattle.guarantee.specs.Good.{Good}
 use Rattle.guarantee.specs.Opening.{begin-good, end-good}
 use Rattle.guarantee.specs.Making.{new-good}
 use Rattle.guarantee.specs.Replacing.{set-good, delete-good}
-use Rattle.guarantee.specs.Advancing.{advance-good, write-back-good}
+use Rattle.guarantee.specs.Advancing.{advance-good}
+use Rattle.guarantee.specs.Flushing.{write-back-good}
 
 module _ (n w t : ℕ) (start : Jobs) where
   abbrev pub GoodAt : Moment → Type 0

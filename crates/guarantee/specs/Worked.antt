@@ -1,0 +1,94 @@
+-- The lines that 01 marks P ("Contracts and cases"), as one statement that ranges over their list.
+use Prim.Native.Nat.{ℕ, _+_}
+use mathlib.Core.Path.{_≡_, refl, sym, _∙_}
+use mathlib.Core.Bool.{Bool, true, false, not, _&&_, _||_}
+use mathlib.Core.Logic.{_⊎_, inl, inr, ⊎-elim}
+use mathlib.Core.List.{List, [], _∷_, List·Memᴰ, List·Memᴰ·cases-cons, List·Memᴰ·not-nil}
+use lib.Dec.{eqb}
+use borrow.Author.Tests.{eqb-true, eqb-false, eq-eqb, ne-eqb}
+use native.Mathlib.Omega.{arith}
+use native.Mathlib.Decide.{ℕ-discrete}
+use Rattle.search.specs.Bools.{refuted}
+use Rattle.search.specs.First.{first}
+use Rattle.search.specs.Some.{some}
+use Rattle.search.specs.Count.{count}
+use Rattle.image.specs.Layout.{headerOf, imageWords, payloadKind, filledKind, header, clockOf}
+use Rattle.transient.specs.Layout.{retiredIn}
+use Rattle.survival.specs.Survivors.{kept, beats, beaten, wins, survives, survivor, survivorCount}
+use Rattle.epochs.specs.Advance.{due}
+use Rattle.guarantee.specs.Lookups.{payload-says}
+
+-- a line of 01
+pub data Line : Type 0 where
+  -- "label 5, clock 7: kept"
+  is-kept : (label clock : ℕ) → Bool → Line
+  -- "N 2, W 2: 13 words"
+  has-words : (n w words : ℕ) → Line
+  -- "retired in 4: freed by the advance from 6"
+  retired-freed : (epoch clock : ℕ) → Line
+  -- "DELETE labelled 4: by the advance from 7"
+  anti-freed : (label clock : ℕ) → Line
+  -- "uid 1 as ALLOC 5 and DELETE 7: at clock 8 the ALLOC survives": whether the first survives, and how many do
+  survive : (alloc anti clock : ℕ) → Bool → ℕ → Line
+
+unfoldable pub lines : List Line
+lines =
+    is-kept 5 7 true ∷ is-kept 6 7 false ∷ is-kept 2 3 false ∷ is-kept 2 4 true
+    ∷ has-words 2 2 13 ∷ has-words 1024 9 12291
+    ∷ retired-freed 4 6 ∷ anti-freed 4 7
+    ∷ survive 5 7 8 true 1 ∷ survive 5 7 9 false 0 ∷ []
+
+-- two slots of uid 1, an ALLOC and a DELETE, of the key 10
+abbrev pub twoVersions : ℕ → ℕ → ℕ → List ℕ
+twoVersions alloc anti clock = 2 ∷ 2 ∷ clock ∷ 1 ∷ alloc ∷ 1 ∷ 3 ∷ anti ∷ 1 ∷ 10 ∷ 100 ∷ 10 ∷ 0 ∷ []
+
+-- what a line says, in terms of the definitions that the contracts and the trace use
+abbrev pub Says : Line → Type 0
+Says (is-kept e c b) = (uid : ℕ) → (kept c (headerOf 1 e uid) ≡ b) × (kept c (headerOf 2 e uid) ≡ b) × (kept c (headerOf 3 e uid) ≡ b)
+Says (has-words n w k) = imageWords n w ≡ k
+Says (retired-freed e c) = (wk tr : List ℕ) (t s d : ℕ) → payloadKind (header wk s .kind) ≡ true → retiredIn tr t s ≡ e → due wk tr t d s ≡ eqb d c
+Says (anti-freed e c) = (wk tr : List ℕ) (t s d : ℕ) → header wk s .kind ≡ 3 → header wk s .epoch ≡ e → due wk tr t d s ≡ eqb d c
+Says (survive a d c b k) = (survivor (twoVersions a d c) 2 0 ≡ b) × (survivorCount (twoVersions a d c) 2 ≡ k)
+
+-- ---- the proofs
+eqb-sym : (a b : ℕ) → eqb a b ≡ eqb b a
+eqb-sym a b = elim (ℕ-discrete a b) [ yes q ↦ rw (eq-eqb a b q, eq-eqb b a (sym q)) | no q ↦ rw (ne-eqb a b q, ne-eqb b a (λ r. q (sym r))) ]
+
+payload-not-anti : (k : ℕ) → payloadKind k ≡ true → eqb k 3 ≡ false
+payload-not-anti k h = ne-eqb k 3 (λ q. omega (arith, payload-says k h))
+
+anti-not-payload : (k : ℕ) → k ≡ 3 → payloadKind k ≡ false
+anti-not-payload k q = refuted (payloadKind k) (λ h. omega (arith, payload-says k h))
+
+or-no : (b : Bool) → b || false ≡ b
+or-no true = refl
+or-no false = refl
+
+module _ (wk tr : List ℕ) (t s d e : ℕ) where
+  retired-due : payloadKind (header wk s .kind) ≡ true → retiredIn tr t s ≡ e → (e ≡ 0 → ⊥) → due wk tr t d s ≡ eqb d (e + 2)
+  unfolding due
+  retired-due h q z = rw (h, q, payload-not-anti (header wk s .kind) h, ne-eqb e 0 z) (or-no (eqb (e + 2) d) ∙ eqb-sym (e + 2) d)
+
+  anti-due : header wk s .kind ≡ 3 → header wk s .epoch ≡ e → due wk tr t d s ≡ eqb d (e + 3)
+  unfolding due
+  anti-due h q = rw (anti-not-payload (header wk s .kind) h, eq-eqb (header wk s .kind) 3 h, q) (eqb-sym (e + 3) d)
+
+-- the first of a list, and the others
+each : (P : Line → Type 0) (y : Line) (ys : List Line) → P y → ((x : Line) → List·Memᴰ x ys → P x) → (x : Line) → List·Memᴰ x (y ∷ ys) → P x
+each P y ys here there x m = ⊎-elim (λ q. rw q here) (there x) (List·Memᴰ·cases-cons m)
+
+-- every line marked P
+pub worked : (x : Line) → List·Memᴰ x lines → Says x
+unfolding lines kept filledKind payloadKind header survivor survives wins beaten beats survivorCount some first count
+worked =
+    each Says _ _ (λ uid. (refl, refl, refl))
+    (each Says _ _ (λ uid. (refl, refl, refl))
+    (each Says _ _ (λ uid. (refl, refl, refl))
+    (each Says _ _ (λ uid. (refl, refl, refl))
+    (each Says _ _ refl
+    (each Says _ _ refl
+    (each Says _ _ (λ wk tr t s d h q. retired-due wk tr t s d 4 h q (λ z. omega arith))
+    (each Says _ _ (λ wk tr t s d h q. anti-due wk tr t s d 4 h q)
+    (each Says _ _ (refl, refl)
+    (each Says _ _ (refl, refl)
+    (λ x m. absurd (List·Memᴰ·not-nil m)))))))))))
