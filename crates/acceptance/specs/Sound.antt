@@ -1,23 +1,21 @@
 -- What an accepted image is sure of, slot by slot.
-use Prim.Native.Nat.{ℕ, _+_, _≤_, _<_}
-use mathlib.Core.Path.{_≡_, refl, sym, ap, _∙_}
-use mathlib.Core.Bool.{Bool, true, false, not, _&&_, _||_}
-use mathlib.Core.Logic.{_≢_, _⊎_, inl, inr, ⊎-elim}
+use Prim.Native.Nat.{ℕ, _≤_, _<_}
+use mathlib.Core.Path.{_≡_}
+use mathlib.Core.Bool.{true, false, not, _&&_, _||_}
+use mathlib.Core.Logic.{_⊎_, inl, inr, ⊎-elim}
 use mathlib.Core.List.{List}
 use lib.Dec.{leb, eqb}
-use borrow.Author.Tests.{leb-true, eqb-true, not-false}
+use borrow.Author.Tests.{leb-true, eqb-true, le-leb, eq-eqb, not-false}
 use native.Mathlib.Omega.{arith}
-use Rattle.search.specs.Bools.{cases, never, and-left, and-right, or-left, or-right}
-use Rattle.search.specs.Some.{some, some-none, every, every-at}
-use Rattle.reply.specs.declared.Check.{Check}
-use Rattle.reply.specs.declared.Check.the-variants.{Accepted, Refused}
-use Rattle.reply.specs.declared.Refusal.{Refusal}
-use Rattle.reply.specs.declared.Refusal.the-variants.{BadSlot, Duplicate}
-use Rattle.reply.specs.Refusals.{refuse, not-refused}
+use Rattle.search.specs.Bools.{cases, and-left, and-right, and-both, or-left, or-right}
+use Rattle.search.specs.Some.{some, some-none, none-some, every, every-at, at-every}
+use Rattle.reply.specs.declared.Check.the-variants.{Accepted}
+use Rattle.reply.specs.declared.Refusal.the-variants.{Sizes, Clock, BadSlot, Duplicate}
+use Rattle.reply.specs.Refusals.{refuse, not-refused, both-accepted}
 use Rattle.image.specs.declared.header.Header.{Header}
-use Rattle.image.specs.Layout.{filledKind, header, keyAt, clockOf}
-use Rattle.survival.specs.Survivors.{kept, survivor}
-use Rattle.acceptance.specs.Accept.{blankHeader, filledHeader, proper, allProper, nameless, someNameless, versionBelow, versionTwice, keyBelow, keyTwice, slotsCheck}
+use Rattle.image.specs.Layout.{filledKind, header, slotsOf, widthOf, clockOf, sizesOk, shapeOk, clockOk, Sized}
+use Rattle.image.specs.Code.{shaped}
+use Rattle.acceptance.specs.Accept.{blankHeader, filledHeader, proper, allProper, nameless, someNameless, versionBelow, versionTwice, keyBelow, keyTwice, headCheck, slotsCheck, imageCheck}
 
 pub record Sound (l : List ℕ) (n w : ℕ) : Type 0 where
   pub all-proper : (s : ℕ) → s < n → proper (clockOf l) (header l s) ≡ true
@@ -96,3 +94,50 @@ proper-cases c h e =
 
 pub uid-top : (c : ℕ) (h : Header) → proper c h ≡ true → h .uid ≤ 4000000000
 uid-top c h e = ⊎-elim (λ (f : FreeOk h). omega arith) (λ (f : FilledOk c h). omega arith) (proper-cases c h e)
+
+-- ---- an accepted image, as facts
+pub record Accepts (l : List ℕ) : Type 0 where
+  pub sized : Sized l (slotsOf l) (widthOf l)
+  pub clock-lo : 2 ≤ clockOf l
+  pub clock-hi : clockOf l ≤ 4000000000
+  pub sound : Sound l (slotsOf l) (widthOf l)
+
+-- from the check to the facts ..
+pub accepted-says : (l : List ℕ) → imageCheck l ≡ Accepted → Accepts l
+unfolding imageCheck headCheck clockOk
+accepted-says l e =
+    let both = both-accepted (headCheck l) (slotsCheck l (slotsOf l) (widthOf l)) e in
+    let shape = not-refused (not (shapeOk l)) Sizes (refuse (not (clockOk (clockOf l))) Clock Accepted) (both .0) in
+    let clock = not-false (clockOk (clockOf l)) (not-refused (not (clockOk (clockOf l))) Clock Accepted (shape .1) .0) in
+    record {
+      sized = shaped l (not-false (shapeOk l) (shape .0));
+      clock-lo = leb-true 2 (clockOf l) (and-left (leb 2 (clockOf l)) _ clock);
+      clock-hi = leb-true (clockOf l) 4000000000 (and-right (leb 2 (clockOf l)) _ clock);
+      sound = sound l (slotsOf l) (widthOf l) (both .1);
+    }
+
+-- the sizes are in range and the length fits
+says-shape : (l : List ℕ) → Sized l (slotsOf l) (widthOf l) → shapeOk l ≡ true
+unfolding shapeOk sizesOk
+says-shape l z =
+    let s = z .sizes in
+    and-both
+    (and-both (le-leb 2 _ (s .slots-lo)) (and-both (le-leb _ 1024 (s .slots-hi)) (and-both (le-leb 2 _ (s .width-lo)) (le-leb _ 9 (s .width-hi)))))
+    (eq-eqb _ _ (z .long))
+
+-- .. and back
+pub says-accepted : (l : List ℕ) → Accepts l → imageCheck l ≡ Accepted
+unfolding imageCheck headCheck clockOk slotsCheck allProper someNameless versionTwice keyTwice
+says-accepted l a =
+    let n = slotsOf l in
+    let w = widthOf l in
+    let s = a .sound in
+    rw (
+      says-shape l (a .sized),
+      le-leb 2 (clockOf l) (a .clock-lo),
+      le-leb (clockOf l) 4000000000 (a .clock-hi),
+      at-every (λ t. proper (clockOf l) (header l t)) n (s .all-proper),
+      none-some (nameless l n w) n (s .named),
+      none-some (versionBelow (clockOf l) (header l)) n (s .versions),
+      none-some (keyBelow l n w) n (s .keys),
+    )

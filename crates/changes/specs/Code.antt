@@ -63,7 +63,7 @@ pub passed-entered : {wk tr : List ℕ} {z : sizes-type.Sizes} → Passed wk tr 
 unfolding sizesOf
 passed-entered p e = rw e (p .inside)
 
-entry-sizing : (wk l tr : List ℕ) → entryCheck (store wk l tr) ≡ Accepted → Sizing wk l tr (slotsOf wk) (widthOf wk) (threadsOf (length tr) (slotsOf wk))
+pub entry-sizing : (wk l tr : List ℕ) → entryCheck (store wk l tr) ≡ Accepted → Sizing wk l tr (slotsOf wk) (widthOf wk) (threadsOf (length tr) (slotsOf wk))
 unfolding entryCheck
 entry-sizing wk l tr a =
     sizing wk l tr refl (not-false (sizesFit wk l tr) (not-refused (not (sizesFit wk l tr)) Sizes (refuse (not (clocksFit wk l tr (threads (store wk l tr)))) Clock Accepted) a .0))

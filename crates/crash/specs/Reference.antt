@@ -1,7 +1,7 @@
 -- The reference map (01: "the plain board"): what the jobs would be if every change were kept, read at a threshold epoch.
 -- 01: "An accepted new, set or delete adds its kind, key, value and operation to the row." "The starting jobs .. are changed by the
 -- row's entries of present operations, in order: new and set give the key the value, delete takes it away."
-use Prim.Native.Nat.{ℕ, _≤_}
+use Prim.Native.Nat.{ℕ}
 use mathlib.Core.List.{List, [], _∷_}
 use mathlib.Core.Option.{Option, none, some}
 use mathlib.Core.Bool.{cond}

@@ -2,8 +2,8 @@
 use Prim.Native.Nat.{ℕ, _+_, _≤_, _<_}
 use mathlib.Core.Path.{_≡_}
 use mathlib.Core.Logic.{_≢_, _⊎_, _↔_}
-use mathlib.Core.List.{List, [], List·Memᴰ}
-use mathlib.Core.Option.{Option, some}
+use mathlib.Core.List.{List, List·Memᴰ}
+use mathlib.Core.Option.{some}
 use Rattle.crash.specs.Table.{Pairwise, Every, Any}
 use Rattle.crash.specs.Reference.{Name, no-name, Value, Jobs, Change, jobsAt}
 

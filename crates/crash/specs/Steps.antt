@@ -2,11 +2,11 @@
 use Prim.Native.Nat.{ℕ, suc, _+_, _≤_, _<_}
 use mathlib.Core.Path.{_≡_}
 use mathlib.Core.Logic.{_≢_, _⊎_, _↔_}
-use mathlib.Core.Option.{Option, some}
-use mathlib.Core.List.{List, [], _∷_, _++_}
+use mathlib.Core.Option.{some}
+use mathlib.Core.List.{[], _∷_, _++_}
 use Rattle.crash.specs.Table.{Put, Put2, Pairwise}
-use Rattle.crash.specs.Reference.{Name, no-name, Value, Jobs, Act, made, changed, deleted, Change}
-use Rattle.crash.specs.Slots.{Entry, Slot, Place, State, Filled, Payload, Proper, SameHead, SameLine, Shows, Swept, Flushed, Underway}
+use Rattle.crash.specs.Reference.{Name, no-name, Value, Act, changed, deleted}
+use Rattle.crash.specs.Slots.{Entry, Slot, Place, State, Filled, Payload, Proper, SameHead, SameLine, Shows, Swept, Flushed}
 
 abbrev pub entry : ℕ → ℕ → ℕ → Name → Value → Entry
 entry k e u n v = record { kind = k; epoch = e; uid = u; name = n; value = v }

@@ -1,14 +1,14 @@
 -- What several changes share: order among the slots of one uid, and an operation's write of an entry into one slot.
-use Prim.Native.Nat.{ℕ, suc, _+_, _-_, _≤_, _<_, min}
+use Prim.Native.Nat.{ℕ, _+_, _-_, _≤_, _<_}
 use mathlib.Core.Path.{_≡_, ap, sym, _∙_}
 use mathlib.Core.Logic.{_≢_, _⊎_, inl, inr, _↔_}
 use mathlib.Core.Option.{none, some}
 use native.Mathlib.Omega.{arith}
-use native.Mathlib.Decide.{ℕ-discrete, decLe}
+use native.Mathlib.Decide.{ℕ-discrete}
 use Rattle.crash.specs.Table.{Put, Any, every-put, pairwise-put, any-new, any-keep, any-case}
 use Rattle.crash.specs.Reference.{Name, no-name, Value, Act, leaves}
 use Rattle.crash.specs.Laws.{late-snoc, shown-step}
-use Rattle.crash.specs.Slots.{Entry, Slot, State, Filled, Payload, Proper, Live, Visible, Sees, Shows, One, Underway, Kin, Two, Next, Inv}
+use Rattle.crash.specs.Slots.{Entry, Slot, State, Filled, Payload, Proper, Visible, Sees, Shows, One, Underway, Kin, Two, Next, Inv}
 use Rattle.crash.specs.Steps.{after, Operation, Joins, Current}
 use Rattle.crash.specs.Kin.{slotty, kin-cases}
 

@@ -41,10 +41,10 @@ onward WentOn on tick st = on st
 onward Ticked on tick st = tick st
 onward (Declined r) on tick st = synced (sync-reply.Declined r) st
 
--- advance calls until so many more ticks have happened; `more` bounds the calls
+-- advance calls until so many more ticks have happened; `more` bounds the calls, and is never used up
 unfoldable pub syncing : ℕ → ℕ → ℕ → Store → Synced
 syncing more zero lines st = synced (sync-reply.Done lines) st
-syncing zero (suc ticks) lines st = synced (sync-reply.Done lines) st
+syncing zero (suc ticks) lines st = synced (sync-reply.Declined LastEpoch) st
 syncing (suc more) (suc ticks) lines st =
     onward (advance st .reply) (syncing more (suc ticks) (suc lines)) (syncing more ticks (suc lines)) (advance st .store)
 

@@ -1,6 +1,6 @@
 -- 01: "The memory may copy any mark or contents line from working to lasting at any moment outside a call ..; a call stands for this."
 use Prim.Native.Nat.{ℕ}
-use mathlib.Core.Bool.{Bool, not, cond, _||_}
+use mathlib.Core.Bool.{cond, _||_}
 use mathlib.Core.List.{List}
 use lib.Dec.{leb, eqb, ltb}
 use Rattle.reply.specs.declared.Check.{Check}

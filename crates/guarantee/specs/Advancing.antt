@@ -3,20 +3,20 @@ use Prim.Native.Nat.{ℕ, _+_, _<_}
 use mathlib.Core.Path.{_≡_, refl, ap, _∙_}
 use mathlib.Core.Bool.{Bool, not, _&&_}
 use lib.Dec.{eqb}
-use borrow.Author.Tests.{eqb-false, eq-eqb, ne-eqb, not-false}
+use borrow.Author.Tests.{eqb-false, eq-eqb, ne-eqb}
 use native.Mathlib.Omega.{arith}
 use native.Mathlib.Decide.{ℕ-discrete}
 use Rattle.search.specs.Bools.{never, not-is-true, and-both}
 use Rattle.search.specs.Some.{some, some-at}
 use Rattle.reply.specs.declared.Check.{Check}
 use Rattle.reply.specs.declared.Check.the-variants.{Accepted, Refused}
-use Rattle.reply.specs.declared.Refusal.the-variants.{Sizes, Clock, StillOpen, LastEpoch}
-use Rattle.reply.specs.Refusals.{refuse, andThen, not-refused}
+use Rattle.reply.specs.declared.Refusal.the-variants.{StillOpen, LastEpoch}
+use Rattle.reply.specs.Refusals.{refuse, andThen, not-refused, both-accepted}
 use Rattle.image.specs.Layout.{slotsOf}
 use Rattle.transient.specs.Store.{Store}
 use Rattle.transient.specs.Layout.{placePhase, placeSlot, openEpoch}
-use Rattle.transient.specs.Entry.{sizesFit, clocksFit, threads, entryCheck}
-use Rattle.transient.specs.Code.{sizing}
+use Rattle.transient.specs.Entry.{threads, entryCheck}
+use Rattle.changes.specs.Code.{entry-sizing}
 use Rattle.epochs.specs.Advance.{Stepped, step, placeOf, underway, openBelow, advanceCheck, stepping, advance}
 use Rattle.crash.specs.Reference.{Jobs}
 use Rattle.crash.specs.Slots.{Place}
@@ -25,7 +25,7 @@ use Rattle.guarantee.specs.View.{progress}
 use Rattle.guarantee.specs.Good.{Good}
 use Rattle.guarantee.specs.Stepping.{progress-one, progress-two, progress-three, progress-four, progress-none, Reached, Ready}
 use Rattle.guarantee.specs.Ticking.{Fine, tick-good}
-use Rattle.guarantee.specs.Flushing.{accepted-both, flush-good, head-good}
+use Rattle.guarantee.specs.Flushing.{flush-good, head-good}
 use Rattle.guarantee.specs.Reclaiming.{reclaim-good}
 
 -- ---- one step, by the phase
@@ -61,11 +61,7 @@ module _ {n w t : ℕ} {start : Jobs} {st : Store} {p : Plain} (y : Ready n w t 
 -- ---- the checks
 -- refusal 1 passed: the place's slot is one of the table
 place-below : (st : Store) → entryCheck st ≡ Accepted → placeSlot (st .transient) < slotsOf (st .working)
-unfolding entryCheck
-place-below st a =
-    let fit = sizesFit (st .working) (st .persistent) (st .transient) in
-    let clocks = refuse (not (clocksFit (st .working) (st .persistent) (st .transient) (threads st))) Clock Accepted in
-    sizing (st .working) (st .persistent) (st .transient) refl (not-false fit (not-refused (not fit) Sizes clocks a .0)) .place
+place-below st a = entry-sizing (st .working) (st .persistent) (st .transient) a .place
 
 module _ {n w t : ℕ} {start : Jobs} {st : Store} {p : Plain} (g : Good n w t start st p) where
   -- refusals 14 and 15 passed
@@ -99,5 +95,5 @@ module _ {n w t : ℕ} {start : Jobs} {st : Store} {p : Plain} (g : Good n w t s
       go : (k : Check) → check ≡ k → Good n w t start (stepping k st next .store) (toldAdvance (stepping k st next .reply) p)
       go (Refused r) e = g
       go Accepted e =
-          let a = accepted-both (entryCheck st) _ e in
+          let a = both-accepted (entryCheck st) _ e in
           step-good (ready (a .1)) (rw (g .working .slots-is) at (place-below st (a .0)))

@@ -1,27 +1,24 @@
 -- New, set and delete keep the invariant.
-use Prim.Native.Nat.{ℕ, suc, _+_, _-_, _≤_, _<_}
-use mathlib.Core.Path.{_≡_, refl, sym, ap, _∙_}
-use mathlib.Core.Bool.{Bool, true, false, not, cond, _||_}
-use mathlib.Core.Logic.{_≢_, _⊎_, inl, inr, ⊎-elim}
-use mathlib.Core.List.{List, [], _∷_, _++_}
-use lib.ListN.{length, getD, drop, replicate, length-replicate}
-use lib.Dec.{leb, ltb, eqb}
-use borrow.Author.Tests.{eqb-true, eqb-false, leb-true, leb-false, ltb-true, ltb-false, not-true, not-false}
+use Prim.Native.Nat.{ℕ, _+_, _-_, _≤_, _<_}
+use mathlib.Core.Path.{_≡_, refl}
+use mathlib.Core.Bool.{Bool, true, false}
+use mathlib.Core.Logic.{_≢_}
+use mathlib.Core.List.{List}
+use lib.Dec.{leb, eqb}
+use borrow.Author.Tests.{eqb-true, eqb-false, leb-false, not-false}
 use native.Mathlib.Omega.{arith}
-use Rattle.search.specs.Bools.{cases, or-left, or-right}
-use Rattle.search.specs.declared.Found.{Found}
-use Rattle.search.specs.declared.Found.the-variants.{At, Nothing}
+use Rattle.search.specs.Bools.{or-left, or-right}
 use Rattle.reply.specs.declared.Check.{Check}
 use Rattle.reply.specs.declared.Check.the-variants.{Accepted, Refused}
 use Rattle.reply.specs.declared.Refusal.{Refusal}
 use Rattle.reply.specs.declared.Refusal.the-variants.{NoThread, NotOpen, BadArgument}
-use Rattle.image.specs.Layout.{header, slotsOf, widthOf}
+use Rattle.image.specs.Layout.{slotsOf, widthOf}
 use Rattle.transient.specs.Store.{Store, store}
-use Rattle.transient.specs.Layout.{lastTaken, nextUidOf, openEpoch}
+use Rattle.transient.specs.Layout.{lastTaken, openEpoch}
 use Rattle.transient.specs.Entry.{threads, entryCheck}
 use Rattle.changes.specs.Code.{entry-passed}
 use Rattle.changes.specs.Job.{badJob, operating}
-use Rattle.changes.specs.Changed.{Changed, changed, refused, declines, Answer, entered, onStore}
+use Rattle.changes.specs.Changed.{Changed, refused, declines, entered, onStore}
 use Rattle.crash.specs.Reference.{Jobs, Act, Value}
 use Rattle.guarantee.specs.Trace.{Plain, toldChange}
 use Rattle.guarantee.specs.Good.{Good}

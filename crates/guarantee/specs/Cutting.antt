@@ -1,32 +1,28 @@
 -- A cut: at every moment of a run recovery accepts the persistent image and makes of it the reference map's jobs at the clock less 2.
 use Prim.Native.Nat.{ℕ, _+_, _-_, _≤_, _<_}
 use mathlib.Core.Path.{_≡_, refl, sym, ap, _∙_}
-use mathlib.Core.Bool.{true, false, not}
+use mathlib.Core.Bool.{true, false}
 use mathlib.Core.Logic.{_≢_, inl, inr, _↔_, Iff·trans}
 use mathlib.Core.List.{List}
 use mathlib.Core.Option.{Option, none, some}
-use lib.Dec.{leb, eqb}
-use borrow.Author.Tests.{eqb-true, leb-true, ltb-true, le-leb, lt-ltb, eq-eqb, ne-eqb, not-true, not-false}
+use lib.Dec.{eqb}
+use borrow.Author.Tests.{eqb-true, leb-true, ltb-true, le-leb, lt-ltb, eq-eqb, ne-eqb, not-true}
 use native.Mathlib.Omega.{arith}
 use native.Mathlib.Decide.{ℕ-discrete, decLt, decLe}
 use Rattle.search.specs.Bools.{never, refuted, and-left, and-right, and-both, not-is-true}
 use Rattle.search.specs.First.{firstOf, firstOf-same, found-first, found-nothing}
-use Rattle.search.specs.Some.{some-one, some-none, none-some, at-every}
+use Rattle.search.specs.Some.{some-one, some-none, none-some}
 use Rattle.search.specs.declared.Found.{Found}
 use Rattle.search.specs.declared.Found.the-variants.{At, Nothing}
-use Rattle.reply.specs.declared.Check.{Check}
-use Rattle.reply.specs.declared.Check.the-variants.{Accepted, Refused}
-use Rattle.reply.specs.declared.Refusal.the-variants.{Sizes, Clock}
-use Rattle.reply.specs.Refusals.{refuse, andThen, not-refused}
+use Rattle.reply.specs.declared.Check.the-variants.{Accepted}
 use Rattle.image.specs.declared.header.Header.{Header}
-use Rattle.image.specs.Layout.{filledKind, payloadKind, header, contents, keyAt, valueAt, slotsOf, widthOf, clockOf, sizesOk, shapeOk, clockOk, Sized}
+use Rattle.image.specs.Layout.{filledKind, payloadKind, header, contents, keyAt, valueAt, slotsOf, widthOf, clockOf}
 use Rattle.image.specs.Laws.{key-contents, value-contents}
-use Rattle.image.specs.Code.{shaped}
 use Rattle.transient.specs.Store.{Store}
 use Rattle.survival.specs.Survivors.{kept, beats, beaten, wins, survives, survivor}
-use Rattle.acceptance.specs.Accept.{blankHeader, filledHeader, proper, nameless, allProper, someNameless, sameVersion, versionBelow, versionTwice, keyBelow, keyTwice, headCheck, slotsCheck, imageCheck}
+use Rattle.acceptance.specs.Accept.{blankHeader, filledHeader, proper, nameless, sameVersion, versionBelow, keyBelow, imageCheck}
 use Rattle.acceptance.specs.Accept.{survivesAs as keySurvives}
-use Rattle.acceptance.specs.Sound.{Sound, sound, proper-cases}
+use Rattle.acceptance.specs.Sound.{Sound, says-accepted, proper-cases}
 use Rattle.recovery.specs.Recover.{finished}
 use Rattle.recovery.specs.Steps.{SameSurvivors, survivors-apart}
 use Rattle.recovery.specs.Completes.{Rebuilt, recovery-completes, recovery-rebuilds}
@@ -40,58 +36,6 @@ use Rattle.guarantee.specs.Promise.{survivesAs, valueFound, jobsOf, Hold
 use Rattle.guarantee.specs.View.{entryOf, view, view-in, view-out}
 use Rattle.guarantee.specs.Good.{Good}
 use Rattle.guarantee.specs.Lookups.{payload-says, says-payload, filled-says, says-filled}
-
--- ---- an accepted image, as facts
-pub record Accepts (l : List ℕ) : Type 0 where
-  pub sized : Sized l (slotsOf l) (widthOf l)
-  pub clock-lo : 2 ≤ clockOf l
-  pub clock-hi : clockOf l ≤ 4000000000
-  pub sound : Sound l (slotsOf l) (widthOf l)
-
--- two checks in a row
-pub both-accepted : (a b : Check) → andThen a b ≡ Accepted → (a ≡ Accepted) × (b ≡ Accepted)
-both-accepted Accepted b e = (refl, e)
-both-accepted (Refused r) b e = let z : _≡_ {A = ℕ} 0 1 = cc in absurd (omega arith)
-
--- from the check to the facts ..
-pub accepted-says : (l : List ℕ) → imageCheck l ≡ Accepted → Accepts l
-unfolding imageCheck headCheck clockOk
-accepted-says l e =
-    let both = both-accepted (headCheck l) (slotsCheck l (slotsOf l) (widthOf l)) e in
-    let shape = not-refused (not (shapeOk l)) Sizes (refuse (not (clockOk (clockOf l))) Clock Accepted) (both .0) in
-    let clock = not-false (clockOk (clockOf l)) (not-refused (not (clockOk (clockOf l))) Clock Accepted (shape .1) .0) in
-    record {
-      sized = shaped l (not-false (shapeOk l) (shape .0));
-      clock-lo = leb-true 2 (clockOf l) (and-left (leb 2 (clockOf l)) _ clock);
-      clock-hi = leb-true (clockOf l) 4000000000 (and-right (leb 2 (clockOf l)) _ clock);
-      sound = sound l (slotsOf l) (widthOf l) (both .1);
-    }
-
--- the sizes are in range and the length fits
-says-shape : (l : List ℕ) → Sized l (slotsOf l) (widthOf l) → shapeOk l ≡ true
-unfolding shapeOk sizesOk
-says-shape l z =
-    let s = z .sizes in
-    and-both
-    (and-both (le-leb 2 _ (s .slots-lo)) (and-both (le-leb _ 1024 (s .slots-hi)) (and-both (le-leb 2 _ (s .width-lo)) (le-leb _ 9 (s .width-hi)))))
-    (eq-eqb _ _ (z .long))
-
--- .. and back
-pub says-accepted : (l : List ℕ) → Accepts l → imageCheck l ≡ Accepted
-unfolding imageCheck headCheck clockOk slotsCheck allProper someNameless versionTwice keyTwice
-says-accepted l a =
-    let n = slotsOf l in
-    let w = widthOf l in
-    let s = a .sound in
-    rw (
-      says-shape l (a .sized),
-      le-leb 2 (clockOf l) (a .clock-lo),
-      le-leb (clockOf l) 4000000000 (a .clock-hi),
-      at-every (λ t. proper (clockOf l) (header l t)) n (s .all-proper),
-      none-some (nameless l n w) n (s .named),
-      none-some (versionBelow (clockOf l) (header l)) n (s .versions),
-      none-some (keyBelow l n w) n (s .keys),
-    )
 
 -- ---- tests of a header, as facts about an entry with it
 kept-says : (c e : ℕ) (h : Header) (line : List ℕ) → e + 2 ≡ c → kept c h ≡ true → Kept e (entryOf h line)

@@ -14,7 +14,7 @@ use Rattle.search.specs.declared.Found.the-variants.{At, Nothing}
 use Rattle.reply.specs.declared.Check.{Check}
 use Rattle.reply.specs.declared.Check.the-variants.{Accepted, Refused}
 use Rattle.reply.specs.declared.Refusal.the-variants.{NoLine}
-use Rattle.reply.specs.Refusals.{andThen, not-refused}
+use Rattle.reply.specs.Refusals.{not-refused, both-accepted}
 use Rattle.image.specs.Layout.{header, contents, slotsOf}
 use Rattle.image.specs.Laws.{length-contents}
 use Rattle.image.specs.Code.{slot}
@@ -38,11 +38,6 @@ use Rattle.guarantee.specs.Images.{Wrote, wrote-image, header-wrote, con
 use Rattle.guarantee.specs.Frame.{flag-off}
 use Rattle.guarantee.specs.Stepping.{flushedTo, halfAt, progress-three, passing-flushed, Noted, noted-none, noted-place, step-put, Reached, Ready, went-good}
 use Rattle.guarantee.specs.Ticking.{Fine, tick-good}
-
--- both checks accept
-pub accepted-both : (a b : Check) → andThen a b ≡ Accepted → (a ≡ Accepted) × (b ≡ Accepted)
-accepted-both Accepted b e = (refl, e)
-accepted-both (Refused r) b e = let z : _≡_ {A = ℕ} 0 1 = cc in absurd (omega arith)
 
 -- ---- a line of slot s
 module _ {n w t : ℕ} {start : Jobs} {st : Store} {p : Plain} (g : Good n w t start st p) {s : ℕ} (k : s < n) where
@@ -117,7 +112,7 @@ module _ {n w t : ℕ} {start : Jobs} {st : Store} {p : Plain} (slot line : ℕ)
       go (Refused r) e = g
       go Accepted e =
           let out = leb (slotsOf (st .working)) slot in
-          let a = not-refused (out || ltb 1 line) NoLine Accepted (accepted-both (entryCheck st) _ e .1) in
+          let a = not-refused (out || ltb 1 line) NoLine Accepted (both-accepted (entryCheck st) _ e .1) in
           copied-good (omega (arith, leb-false (slotsOf (st .working)) slot (or-left out _ (a .0)), g .working .slots-is))
 
 -- ---- by advance

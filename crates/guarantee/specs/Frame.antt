@@ -1,30 +1,28 @@
 -- What every change call needs and keeps: the operation it belongs to, the slot it writes, and all that it leaves as it was.
-use Prim.Native.Nat.{ℕ, suc, _+_, _≤_, _<_}
-use mathlib.Core.Path.{_≡_, refl, sym, ap, _∙_}
-use mathlib.Core.Bool.{Bool, true, false, not, cond, _&&_}
-use mathlib.Core.Logic.{_≢_, _⊎_, inl, inr, ⊎-elim}
+use Prim.Native.Nat.{ℕ, _+_, _≤_, _<_}
+use mathlib.Core.Path.{_≡_, refl, _∙_}
+use mathlib.Core.Bool.{Bool, true, false}
+use mathlib.Core.Logic.{_≢_}
 use mathlib.Core.List.{List, [], _∷_, _++_}
-use lib.ListN.{length, getD, drop}
-use lib.Dec.{leb, eqb}
-use borrow.Author.Tests.{eqb-true, eqb-false, leb-true, leb-false, le-leb, lt-leb, eq-eqb, ne-eqb}
+use lib.ListN.{length}
+use lib.Dec.{eqb}
+use borrow.Author.Tests.{le-leb, ne-eqb}
 use native.Mathlib.Omega.{arith}
-use native.Mathlib.Decide.{ℕ-discrete, decLe}
-use Rattle.search.specs.Bools.{cases, never, and-both}
+use Rattle.search.specs.Bools.{never, and-both}
 use Rattle.image.specs.declared.header.Header.{Header}
-use Rattle.image.specs.Layout.{header, contents, Sized}
 use Rattle.transient.specs.Store.{Store, store}
-use Rattle.transient.specs.Layout.{nextUidOf, placePhase, placeSlot, openEpoch, retiredIn, isWaiting, Notes}
+use Rattle.transient.specs.Layout.{nextUidOf, placePhase, placeSlot, openEpoch, isWaiting}
 use Rattle.transient.specs.Laws.{notes-after}
 use Rattle.epochs.specs.Advance.{underway}
 use Rattle.crash.specs.Table.{Put}
 use Rattle.crash.specs.Reference.{Jobs, Act, Name, Value, Change}
-use Rattle.crash.specs.Slots.{Entry, Slot, State, Place, Inv}
-use Rattle.crash.specs.Steps.{entry, Operation, Joins}
-use Rattle.guarantee.specs.Trace.{Plain, toldChange}
+use Rattle.crash.specs.Slots.{Slot, State, Place, Inv}
+use Rattle.crash.specs.Steps.{Operation, Joins}
+use Rattle.guarantee.specs.Trace.{Plain}
 use Rattle.guarantee.specs.View.{flag, entryOf, slotOf, view, progress, view-in, view-put}
-use Rattle.guarantee.specs.Good.{stateOf, Image, Opens, Past, Good}
+use Rattle.guarantee.specs.Good.{stateOf, Image, Opens, Good}
 use Rattle.guarantee.specs.Notes.{Joined, joined-retired, joined-waiting, joined-open, joined-phase, joined-slot, joined-in, joined-kept, waiting-again}
-use Rattle.guarantee.specs.Images.{Wrote, wrote-image}
+use Rattle.guarantee.specs.Images.{Wrote}
 
 -- ---- flags
 pub flag-up : (a b : Bool) → (a ≡ true → b ≡ true) → flag a ≤ flag b
@@ -47,7 +45,7 @@ unfolding underway progress
 progress-rest n tr u =
     let k = placePhase tr in
     let off : (j : ℕ) → 1 ≤ j → j ≤ 4 → eqb k j ≡ false =
-        λ j a b. ne-eqb k j (λ q. never _ (and-both (le-leb 1 k (omega arith)) (le-leb k 4 (omega arith))) u) in
+    λ j a b. ne-eqb k j (λ q. never _ (and-both (le-leb 1 k (omega arith)) (le-leb k 4 (omega arith))) u) in
     record { flushed = rw (off 2 (omega arith) (omega arith), off 3 (omega arith) (omega arith), off 4 (omega arith) (omega arith)); half = rw (off 3 (omega arith) (omega arith)) }
 
 -- ---- the notes but for slots: the open operations and the place

@@ -1,7 +1,7 @@
 -- The invariant of a run: the crash invariant of the store seen as a table, with sizes n, w and t that never change.
 use Prim.Native.Nat.{ℕ, _+_, _≤_, _<_}
 use mathlib.Core.Path.{_≡_}
-use mathlib.Core.Bool.{Bool, true, false}
+use mathlib.Core.Bool.{false}
 use mathlib.Core.List.{List, List·Memᴰ}
 use Rattle.image.specs.Layout.{slotsOf, widthOf, clockOf, Sized}
 use Rattle.transient.specs.Layout.{nextUidOf, placePhase, placeSlot, openEpoch, Notes}

@@ -1,12 +1,12 @@
 -- What a call does to an image: one slot gets a header and contents, and all else stays.
-use Prim.Native.Nat.{ℕ, _+_, _-_, _≤_, _<_}
-use mathlib.Core.Path.{_≡_, refl, sym, ap, _∙_}
+use Prim.Native.Nat.{ℕ, _+_, _-_, _<_}
+use mathlib.Core.Path.{_≡_, refl, _∙_}
 use mathlib.Core.Logic.{_≢_}
 use mathlib.Core.List.{List, _∷_}
 use lib.ListN.{length, getD}
 use native.Mathlib.Omega.{arith}
 use Rattle.image.specs.declared.header.Header.{Header}
-use Rattle.image.specs.Layout.{header, contents, keyAt, setHeader, setContents, Slot, Sized}
+use Rattle.image.specs.Layout.{header, contents, keyAt, setHeader, setContents, Sized}
 use Rattle.image.specs.Laws.{length-setHeader, header-same, header-other, contents-setHeader, front-setHeader, length-setContents, contents-same, contents-other, header-setContents, front-setContents, sized-after}
 use Rattle.image.specs.Code.{slot, header-fits}
 use Rattle.table.specs.Fill.{setValue, filledSlot}

@@ -2,6 +2,7 @@ pub mod Trace
 pub mod Promise
 pub mod Theorem
 pub mod Worked
+pub mod Syncs
 pub mod View
 pub mod Good
 pub mod Notes

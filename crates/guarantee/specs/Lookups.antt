@@ -1,21 +1,20 @@
 -- What the look-ups of a call say of the table that the invariant sees.
-use Prim.Native.Nat.{ℕ, _+_, _≤_, _<_}
-use mathlib.Core.Path.{_≡_, refl, sym, ap, _∙_}
-use mathlib.Core.Bool.{Bool, true, false, not, cond, _&&_}
-use mathlib.Core.Logic.{_≢_, _⊎_, inl, inr, ⊎-elim}
+use Prim.Native.Nat.{ℕ, _≤_, _<_}
+use mathlib.Core.Path.{_≡_, refl, sym, _∙_}
+use mathlib.Core.Bool.{true, false}
+use mathlib.Core.Logic.{_≢_, _⊎_, ⊎-elim}
 use mathlib.Core.List.{List}
-use lib.Dec.{leb, ltb, eqb}
-use borrow.Author.Tests.{eqb-true, eqb-false, leb-true, leb-false, ltb-true, ltb-false, le-leb, lt-leb, eq-eqb, ne-eqb, lt-ltb, not-true, not-false}
+use lib.Dec.{leb, eqb}
+use borrow.Author.Tests.{eqb-true, leb-true, le-leb, eq-eqb, lt-ltb, not-true}
 use native.Mathlib.Omega.{arith}
 use native.Mathlib.Decide.{ℕ-discrete, decLt, decLe}
-use Rattle.search.specs.Bools.{cases, never, and-both, and-left, and-right, refuted}
-use Rattle.search.specs.First.{firstOf, found-first, found-nothing}
-use Rattle.search.specs.Some.{some, some-none}
-use Rattle.search.specs.Count.{count}
+use Rattle.search.specs.Bools.{cases, never, and-both, and-left, and-right}
+use Rattle.search.specs.First.{found-first, found-nothing}
+use Rattle.search.specs.Some.{some-none}
 use Rattle.search.specs.Ring.{firstRound, round-found}
 use Rattle.search.specs.declared.Found.{Found}
 use Rattle.search.specs.declared.Found.the-variants.{At, Nothing}
-use Rattle.image.specs.Layout.{filledKind, payloadKind, header, contents, keyAt, Sized}
+use Rattle.image.specs.Layout.{filledKind, payloadKind, header, keyAt}
 use Rattle.image.specs.Laws.{key-contents}
 use Rattle.transient.specs.Store.{Store}
 use Rattle.transient.specs.Layout.{retiredIn}
@@ -23,9 +22,9 @@ use Rattle.table.specs.declared.find.Lookup.{Lookup}
 use Rattle.table.specs.declared.find.Lookup.the-variants.{Newer, Live, Absent}
 use Rattle.table.specs.Find.{newerAt, newer, liveAt, liveSlot, lookedUp, lookup, freeAt, freeCount, room}
 use Rattle.crash.specs.Reference.{Jobs}
-use Rattle.crash.specs.Slots.{Slot, Filled, Payload, Inv}
+use Rattle.crash.specs.Slots.{Slot, Filled, Payload}
 use Rattle.guarantee.specs.Trace.{Plain}
-use Rattle.guarantee.specs.View.{slotOf, view, view-in, view-out}
+use Rattle.guarantee.specs.View.{view, view-in, view-out}
 use Rattle.guarantee.specs.Good.{Good}
 
 -- ---- kinds

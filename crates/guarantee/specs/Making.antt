@@ -1,37 +1,31 @@
 -- New keeps the invariant.
 use Prim.Native.Nat.{ℕ, suc, _+_, _-_, _≤_, _<_}
-use mathlib.Core.Path.{_≡_, refl, sym, ap, _∙_}
-use mathlib.Core.Bool.{Bool, true, false, not, _||_}
+use mathlib.Core.Path.{_≡_, refl, _∙_}
+use mathlib.Core.Bool.{true}
 use mathlib.Core.Logic.{_≢_}
-use mathlib.Core.List.{List, [], _∷_, _++_}
+use mathlib.Core.List.{List, _∷_}
 use lib.ListN.{length}
-use lib.Dec.{leb, ltb, eqb}
-use borrow.Author.Tests.{eqb-true, eqb-false, leb-false, ltb-false, not-false}
+use lib.Dec.{ltb}
+use borrow.Author.Tests.{ltb-false}
 use native.Mathlib.Omega.{arith}
-use Rattle.search.specs.Bools.{or-left, or-right}
 use Rattle.search.specs.declared.Found.{Found}
 use Rattle.search.specs.declared.Found.the-variants.{At, Nothing}
-use Rattle.reply.specs.declared.Check.the-variants.{Accepted}
-use Rattle.reply.specs.declared.Refusal.the-variants.{NoThread, NotOpen, BadArgument, Newer, JobExists, NoUid, Full}
+use Rattle.reply.specs.declared.Refusal.the-variants.{Newer, JobExists, NoUid, Full}
 use Rattle.image.specs.Layout.{freshHeader}
 use Rattle.transient.specs.Store.{Store, store}
-use Rattle.transient.specs.Layout.{lastTaken, nextUidOf, openEpoch, setNextUid}
-use Rattle.transient.specs.Entry.{entryCheck}
+use Rattle.transient.specs.Layout.{lastTaken, nextUidOf, openEpoch}
 use Rattle.table.specs.declared.find.Lookup.{Lookup}
 use Rattle.table.specs.declared.find.Lookup.the-variants as look
 use Rattle.table.specs.Find.{lookup, room, freeAt}
-use Rattle.table.specs.Fill.{filledSlot, taken}
-use Rattle.changes.specs.Changed.{Changed, refused, declines}
-use Rattle.changes.specs.Code.{entry-passed}
-use Rattle.changes.specs.Job.{badJob, operating}
+use Rattle.changes.specs.Changed.{Changed}
+use Rattle.changes.specs.Job.{badJob}
 use Rattle.changes.specs.New.{newAt, newIn, newAbsent, newLooked, newOpen, made, new}
 use Rattle.crash.specs.Reference as ref
 use Rattle.crash.specs.Reference.{Jobs, Value}
-use Rattle.crash.specs.Slots.{Inv}
 use Rattle.crash.specs.New.{new-inv}
 use Rattle.guarantee.specs.Trace.{Plain, toldChange}
-use Rattle.guarantee.specs.Good.{stateOf, Good}
-use Rattle.guarantee.specs.Notes.{joined-phase, joined-slot, made-joins}
+use Rattle.guarantee.specs.Good.{Good}
+use Rattle.guarantee.specs.Notes.{made-joins}
 use Rattle.guarantee.specs.Images.{wrote-image, filled-wrote}
 use Rattle.guarantee.specs.Frame.{operation-of, joined-notes, change-put, change-joins, good-change, row-epoch}
 use Rattle.guarantee.specs.Lookups.{Missing, absent-says, room-says, free-says, no-later-of, no-live-of}

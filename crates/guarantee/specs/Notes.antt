@@ -1,16 +1,15 @@
 -- What the change calls do to the notes: one slot joins the waiting list of e, its retirement and the next uid are set, and all
 -- else but the last slot taken stays.
 use Prim.Native.Nat.{ℕ, _+_, _≤_, _<_}
-use mathlib.Core.Path.{_≡_, refl, sym, ap, _∙_}
-use mathlib.Core.Bool.{Bool, true, false, not, cond}
+use mathlib.Core.Path.{_≡_, ap, _∙_}
+use mathlib.Core.Bool.{true, false}
 use mathlib.Core.Logic.{_≢_, _⊎_, inl, inr, ⊎-elim}
 use mathlib.Core.List.{List}
 use lib.ListN.{length, getD}
-use lib.Dec.{eqb}
 use native.Mathlib.Omega.{arith}
 use native.Mathlib.Decide.{ℕ-discrete}
-use Rattle.transient.specs.Layout.{nextUidOf, placePhase, placeSlot, openEpoch, retiredIn, listBase, waitingAt, isWaiting, setLast, setNextUid, setOpen, setRetired, setWaiting, setPlace, emptied, Notes}
-use Rattle.transient.specs.Laws.{base-top, base-again, base-cases, length-setLast, length-setNextUid, length-setRetired, length-setWaiting, word-setLast, word-setNextUid, word-setRetired, word-setWaiting, uid-set, retired-same, waiting-same, notes-after}
+use Rattle.transient.specs.Layout.{nextUidOf, placePhase, placeSlot, openEpoch, retiredIn, listBase, waitingAt, isWaiting, setLast, setNextUid, setRetired, setWaiting, Notes}
+use Rattle.transient.specs.Laws.{base-again, base-cases, length-setLast, length-setNextUid, length-setRetired, length-setWaiting, word-setLast, word-setNextUid, word-setRetired, word-setWaiting, uid-set, retired-same, waiting-same, notes-after}
 use Rattle.table.specs.Fill.{joined, taken}
 
 -- ---- flags

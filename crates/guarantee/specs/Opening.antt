@@ -1,31 +1,28 @@
 -- Begin and end keep the invariant: they change one thread's open epoch, which no slot sees.
-use Prim.Native.Nat.{ℕ, suc, _+_, _≤_, _<_}
-use mathlib.Core.Path.{_≡_, refl, sym, ap, _∙_, fun-ext}
-use mathlib.Core.Bool.{Bool, true, false, not, cond}
-use mathlib.Core.Logic.{_≢_, _⊎_, inl, inr, ⊎-elim}
+use Prim.Native.Nat.{ℕ, _+_, _≤_, _<_}
+use mathlib.Core.Path.{_≡_, refl, fun-ext}
+use mathlib.Core.Bool.{Bool, true, false, not}
+use mathlib.Core.Logic.{_≢_, _⊎_, ⊎-elim}
 use mathlib.Core.List.{List, _∷_, List·Memᴰ, List·Memᴰ·cases-cons}
-use lib.ListN.{getD}
 use lib.Dec.{leb, eqb}
-use borrow.Author.Tests.{eqb-false, leb-false, eq-eqb, ne-eqb}
+use borrow.Author.Tests.{leb-false, eq-eqb, ne-eqb}
 use native.Mathlib.Omega.{arith}
 use native.Mathlib.Decide.{ℕ-discrete}
 use Rattle.reply.specs.declared.Check.{Check}
 use Rattle.reply.specs.declared.Check.the-variants.{Accepted, Refused}
 use Rattle.reply.specs.declared.Refusal.{Refusal}
 use Rattle.reply.specs.declared.Refusal.the-variants.{NoThread, AlreadyOpen, NotOpen}
-use Rattle.image.specs.Layout.{slotsOf, widthOf, clockOf}
 use Rattle.transient.specs.Store.{Store, store}
-use Rattle.transient.specs.Layout.{nextUidOf, placePhase, placeSlot, openEpoch, retiredIn, waitingAt, isWaiting, setOpen, Notes}
+use Rattle.transient.specs.Layout.{placePhase, openEpoch, waitingAt, setOpen}
 use Rattle.transient.specs.Laws.{length-setOpen, word-setOpen, open-same, notes-after}
 use Rattle.transient.specs.Entry.{threads, entryCheck}
-use Rattle.changes.specs.Changed.{Changed, changed, refused, declines, Answer, entered, onStore}
+use Rattle.changes.specs.Changed.{Changed, declines, entered}
 use Rattle.changes.specs.Open.{begun, ended, begin, end}
 use Rattle.epochs.specs.Advance.{underway}
 use Rattle.crash.specs.Reference.{Jobs}
-use Rattle.crash.specs.Slots.{Slot, Inv}
 use Rattle.guarantee.specs.Trace.{Plain, opening, toldBegin, toldEnd}
-use Rattle.guarantee.specs.View.{slotOf, view, same-view}
-use Rattle.guarantee.specs.Good.{stateOf, Opens, Past, Good}
+use Rattle.guarantee.specs.View.{view, same-view}
+use Rattle.guarantee.specs.Good.{Opens, Good}
 use Rattle.guarantee.specs.Notes.{waiting-same-word}
 
 -- ---- an open epoch set

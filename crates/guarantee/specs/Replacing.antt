@@ -1,33 +1,31 @@
 -- Set and delete keep the invariant: in the version's own slot, or by a later version.
-use Prim.Native.Nat.{ℕ, suc, _+_, _-_, _≤_, _<_}
-use mathlib.Core.Path.{_≡_, refl, sym, ap, _∙_}
-use mathlib.Core.Bool.{Bool, true, false, cond}
+use Prim.Native.Nat.{ℕ, _+_, _-_, _≤_, _<_}
+use mathlib.Core.Path.{_≡_, refl, sym}
+use mathlib.Core.Bool.{true, false}
 use mathlib.Core.Logic.{_≢_, ⊎-elim}
-use mathlib.Core.List.{List, [], _∷_, _++_}
+use mathlib.Core.List.{List, []}
 use lib.ListN.{length, getD, drop, replicate, length-replicate}
 use lib.Dec.{eqb}
 use borrow.Author.Tests.{eqb-true, eqb-false}
 use native.Mathlib.Omega.{arith}
 use Rattle.search.specs.Bools.{cases}
 use Rattle.reply.specs.declared.Refusal.the-variants.{Newer, NoJob}
-use Rattle.image.specs.Layout.{header, contents, keyAt, freeHeader, antiHeader, updatedHeader, setHeader}
+use Rattle.image.specs.Layout.{header, contents, keyAt, freeHeader, antiHeader}
 use Rattle.image.specs.Laws.{key-contents}
 use Rattle.transient.specs.Store.{Store, store}
-use Rattle.transient.specs.Layout.{lastTaken, nextUidOf, openEpoch, retiredIn, isWaiting, setWaiting}
+use Rattle.transient.specs.Layout.{lastTaken, openEpoch, retiredIn}
 use Rattle.table.specs.declared.find.Lookup.{Lookup}
 use Rattle.table.specs.declared.find.Lookup.the-variants as look
 use Rattle.table.specs.Find.{newer, lookup}
-use Rattle.table.specs.Fill.{setValue, joined}
-use Rattle.changes.specs.Changed.{Changed}
 use Rattle.changes.specs.Job.{badJob}
 use Rattle.changes.specs.Set.{rewritten, updated, setAt, setLooked, setOpened, replaced, set}
 use Rattle.changes.specs.Delete.{freedAt, turned, covered, deleteAt, deleteLooked, deleteOpened, removed, delete}
 use Rattle.crash.specs.Table.{Put}
 use Rattle.crash.specs.Reference as ref
-use Rattle.crash.specs.Reference.{Jobs, Name, Value}
-use Rattle.crash.specs.Slots.{Entry, Slot, State, Inv}
+use Rattle.crash.specs.Reference.{Jobs, Value}
+use Rattle.crash.specs.Slots.{Entry, Slot, State}
 use Rattle.crash.specs.Steps as steps
-use Rattle.crash.specs.Steps.{entry, after, Current, Joins, InPlace}
+use Rattle.crash.specs.Steps.{entry, Current, Joins, InPlace}
 use Rattle.crash.specs.InPlace.{set-inv}
 use Rattle.crash.specs.Turn.{turn-inv}
 use Rattle.crash.specs.Unmake.{unmake-inv}
@@ -72,7 +70,7 @@ module _ {n w t : ℕ} {start : Jobs} {wk l tr : List ℕ} {p : Plain} (thread k
         let a = value-wrote (g .working .sized) (lives .below) v words in
         let j = waiting-joins (g .notes) e s (lives .below) in
         let x : entry (header wk s .kind) (header wk s .epoch) (header wk s .uid) (keyAt wk n w s) v ≡ steps.revalued v (old .working) =
-            rw (at-slot, key-contents wk n w s (omega (arith, g .working .sized .sizes .width-lo))) in
+        rw (at-slot, key-contents wk n w s (omega (arith, g .working .sized .sizes .width-lo))) in
         let r : retiredIn tr t s ≡ old .retired = rw at-slot in
         record {
           good = good-change g (wrote-image a (g .working)) (joined-notes j) (j .uid) (row-epoch g ref.changed thread key v within)

@@ -18,7 +18,7 @@ use Rattle.search.specs.declared.Found.the-variants.{At, Nothing}
 use Rattle.reply.specs.declared.Check.{Check}
 use Rattle.reply.specs.declared.Check.the-variants.{Accepted, Refused}
 use Rattle.reply.specs.declared.Refusal.the-variants.{Sizes}
-use Rattle.reply.specs.Refusals.{not-refused}
+use Rattle.reply.specs.Refusals.{not-refused, both-accepted}
 use Rattle.image.specs.Layout.{headerAt, imageWords, filledKind, payloadKind, header, contents, keyAt, valueAt, slotsOf, widthOf, clockOf, freeHeader, sizesOk}
 use Rattle.image.specs.Layout.{Sizes as InRange}
 use Rattle.image.specs.Laws.{key-contents, value-contents}
@@ -42,7 +42,8 @@ use Rattle.guarantee.specs.Promise.{jobsOf, Started, fresh, recovered}
 use Rattle.guarantee.specs.View.{entryOf, slotOf, noSlot, view, progress, view-in, view-out}
 use Rattle.guarantee.specs.Good.{stateOf, Image, Good}
 use Rattle.guarantee.specs.Lookups.{filled-says, says-filled}
-use Rattle.guarantee.specs.Cutting.{Accepts, accepted-says, says-accepted, both-accepted, Job, jobs-of, survives-at, proper-says}
+use Rattle.acceptance.specs.Sound.{Accepts, accepted-says, says-accepted}
+use Rattle.guarantee.specs.Cutting.{Job, jobs-of, survives-at, proper-says}
 
 -- the invariant, at the start of a run
 abbrev Begins : Store → Type 0

@@ -1,26 +1,25 @@
 -- A later version takes a free slot and the old one is retired: the two slots that change.
-use Prim.Native.Nat.{ℕ, suc, _+_, _-_, _≤_, _<_}
-use mathlib.Core.Path.{_≡_, refl, sym, ap, _∙_}
-use mathlib.Core.Bool.{Bool, true, false}
+use Prim.Native.Nat.{ℕ, _+_, _-_, _<_}
+use mathlib.Core.Path.{_≡_, refl, sym, _∙_}
+use mathlib.Core.Bool.{true}
 use mathlib.Core.Logic.{_≢_}
 use mathlib.Core.List.{List, [], _∷_, _++_}
-use lib.ListN.{length, getD, drop}
+use lib.ListN.{length}
 use native.Mathlib.Omega.{arith}
 use Rattle.search.specs.declared.Found.{Found}
 use Rattle.search.specs.declared.Found.the-variants.{At, Nothing}
 use Rattle.reply.specs.declared.Refusal.the-variants.{Full}
 use Rattle.image.specs.declared.header.Header.{Header}
-use Rattle.image.specs.Layout.{header, contents, headerOf}
+use Rattle.image.specs.Layout.{header, headerOf}
 use Rattle.transient.specs.Store.{Store, store}
-use Rattle.transient.specs.Layout.{lastTaken, nextUidOf, placePhase, placeSlot, openEpoch, retiredIn, waitingAt, isWaiting, setRetired, Notes}
+use Rattle.transient.specs.Layout.{lastTaken, nextUidOf, openEpoch, retiredIn, waitingAt, isWaiting, setRetired, Notes}
 use Rattle.transient.specs.Laws.{length-setRetired, word-setRetired, retired-same, notes-after}
 use Rattle.table.specs.Find.{room, freeAt}
 use Rattle.table.specs.Fill.{filledSlot, taken}
-use Rattle.changes.specs.Changed.{Changed}
 use Rattle.changes.specs.Job.{superseded}
 use Rattle.crash.specs.Table.{Put2}
 use Rattle.crash.specs.Reference.{Jobs, Act, Name, Value}
-use Rattle.crash.specs.Slots.{Entry, Slot, State, Inv}
+use Rattle.crash.specs.Slots.{Slot, State, Inv}
 use Rattle.crash.specs.Steps.{entry, filled, retiring, after, Outcome, Current, Joins}
 use Rattle.crash.specs.Over.{over-inv}
 use Rattle.guarantee.specs.Trace.{Plain}

@@ -14,7 +14,7 @@ use Rattle.changes.specs.Set.{set}
 use Rattle.changes.specs.Delete.{delete}
 use Rattle.epochs.specs.declared.Advance.{Advance}
 use Rattle.epochs.specs.declared.Advance.the-variants.{WentOn, Ticked, Declined}
-use Rattle.epochs.specs.Advance.{advance, Advanced}
+use Rattle.epochs.specs.Advance.{advance}
 use Rattle.epochs.specs.Sync.{syncCheck, mostLines}
 use Rattle.epochs.specs.WriteBack.{writeBack}
 use Rattle.crash.specs.Reference.{Act, made, changed, deleted, Change, Value}

@@ -1,18 +1,18 @@
 -- The lines that 01 marks P ("Contracts and cases"), as one statement that ranges over their list.
 use Prim.Native.Nat.{ℕ, _+_}
 use mathlib.Core.Path.{_≡_, refl, sym, _∙_}
-use mathlib.Core.Bool.{Bool, true, false, not, _&&_, _||_}
-use mathlib.Core.Logic.{_⊎_, inl, inr, ⊎-elim}
+use mathlib.Core.Bool.{Bool, true, false, _||_}
+use mathlib.Core.Logic.{_⊎_, ⊎-elim}
 use mathlib.Core.List.{List, [], _∷_, List·Memᴰ, List·Memᴰ·cases-cons, List·Memᴰ·not-nil}
 use lib.Dec.{eqb}
-use borrow.Author.Tests.{eqb-true, eqb-false, eq-eqb, ne-eqb}
+use borrow.Author.Tests.{eq-eqb, ne-eqb}
 use native.Mathlib.Omega.{arith}
 use native.Mathlib.Decide.{ℕ-discrete}
 use Rattle.search.specs.Bools.{refuted}
 use Rattle.search.specs.First.{first}
 use Rattle.search.specs.Some.{some}
 use Rattle.search.specs.Count.{count}
-use Rattle.image.specs.Layout.{headerOf, imageWords, payloadKind, filledKind, header, clockOf}
+use Rattle.image.specs.Layout.{headerOf, imageWords, payloadKind, filledKind, header}
 use Rattle.transient.specs.Layout.{retiredIn}
 use Rattle.survival.specs.Survivors.{kept, beats, beaten, wins, survives, survivor, survivorCount}
 use Rattle.epochs.specs.Advance.{due}

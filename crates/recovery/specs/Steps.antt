@@ -11,21 +11,18 @@ use native.Mathlib.Omega.{arith}
 use native.Mathlib.Decide.{decLt}
 use Rattle.search.specs.Bools.{never, upheld, same-test, and-left, and-right, and-both}
 use Rattle.search.specs.First.{firstOf, First, found-first, found-nothing}
-use Rattle.search.specs.Some.{some, some-at, some-same, none-some, at-every}
+use Rattle.search.specs.Some.{some-at, some-same}
 use Rattle.search.specs.Count.{count, count-down}
 use Rattle.search.specs.declared.Found.{Found}
 use Rattle.search.specs.declared.Found.the-variants.{At, Nothing}
-use Rattle.reply.specs.declared.Check.{Check}
-use Rattle.reply.specs.declared.Check.the-variants.{Accepted, Refused}
-use Rattle.reply.specs.declared.Refusal.the-variants.{Sizes, Clock}
-use Rattle.reply.specs.Refusals.{refuse, andThen, not-refused}
-use Rattle.image.specs.Layout.{filledKind, header, contents, keyAt, valueAt, slotsOf, widthOf, clockOf, shapeOk, clockOk, setHeader, freeHeader, Sized}
-use Rattle.image.specs.Laws.{length-setHeader, front-setHeader, header-same, header-other, contents-setHeader, key-setHeader, value-setHeader}
-use Rattle.image.specs.Code.{shaped, header-fits}
+use Rattle.reply.specs.declared.Check.the-variants.{Accepted}
+use Rattle.image.specs.Layout.{filledKind, header, contents, keyAt, valueAt, slotsOf, widthOf, clockOf, setHeader, freeHeader}
+use Rattle.image.specs.Laws.{length-setHeader, front-setHeader, header-same, header-other, contents-setHeader, key-setHeader, value-setHeader, sized-after}
+use Rattle.image.specs.Code.{header-fits}
 use Rattle.survival.specs.Survivors.{survivor}
-use Rattle.acceptance.specs.Accept.{proper, allProper, nameless, someNameless, versionBelow, versionTwice, survivesAs, keyBelow, keyTwice, headCheck, slotsCheck, imageCheck}
+use Rattle.acceptance.specs.Accept.{nameless, survivesAs, keyBelow, imageCheck}
 use Rattle.recovery.specs.Recover.{antiAt, stale, nextFreed}
-use Rattle.acceptance.specs.Sound.{Sound, sound}
+use Rattle.acceptance.specs.Sound.{accepted-says, says-accepted}
 use Rattle.recovery.specs.Freed.{Freed, Covered, anti-says, survives-filled, kept-filled, freed-survives, freed-proper, freed-versions, stale-covered, anti-dies, anti-covered}
 
 unfoldable pub filledAt : List ℕ → ℕ → Bool
@@ -42,36 +39,6 @@ pub record SameSurvivors (l l′ : List ℕ) : Type 0 where
   pub lines : (s : ℕ) → contents l′ (slotsOf l) (widthOf l) s ≡ contents l (slotsOf l) (widthOf l) s
   pub keys : (s : ℕ) → keyAt l′ (slotsOf l) (widthOf l) s ≡ keyAt l (slotsOf l) (widthOf l) s
   pub values : (s : ℕ) → valueAt l′ (slotsOf l) (widthOf l) s ≡ valueAt l (slotsOf l) (widthOf l) s
-
--- ---- an accepted image
-both-accepted : (a b : Check) → andThen a b ≡ Accepted → (a ≡ Accepted) × (b ≡ Accepted)
-both-accepted Accepted b e = (refl, e)
-both-accepted (Refused r) b e = let z : _≡_ {A = ℕ} 0 1 = cc in absurd (omega arith)
-
-record AcceptedImage (l : List ℕ) : Type 0 where
-  head : headCheck l ≡ Accepted
-  sized : Sized l (slotsOf l) (widthOf l)
-  sound : Sound l (slotsOf l) (widthOf l)
-
-accepted-image : (l : List ℕ) → imageCheck l ≡ Accepted → AcceptedImage l
-unfolding imageCheck headCheck
-accepted-image l e =
-    let both = both-accepted (headCheck l) (slotsCheck l (slotsOf l) (widthOf l)) e in
-    let shape = not-refused (not (shapeOk l)) Sizes (refuse (not (clockOk (clockOf l))) Clock Accepted) (both .0) in
-    record { head = both .0; sized = shaped l (not-false (shapeOk l) (shape .0)); sound = sound l (slotsOf l) (widthOf l) (both .1) }
-
-sound-accepted : (l : List ℕ) → headCheck l ≡ Accepted → Sound l (slotsOf l) (widthOf l) → imageCheck l ≡ Accepted
-unfolding imageCheck slotsCheck allProper someNameless versionTwice keyTwice
-sound-accepted l head s =
-    let n = slotsOf l in
-    let w = widthOf l in
-    rw (
-      head,
-      at-every (λ t. proper (clockOf l) (header l t)) n (s .all-proper),
-      none-some (nameless l n w) n (s .named),
-      none-some (versionBelow (clockOf l) (header l)) n (s .versions),
-      none-some (keyBelow l n w) n (s .keys),
-    )
 
 -- ---- the slot freed next: filled, no survivor, covered
 record Spent (l : List ℕ) (n s : ℕ) : Type 0 where
@@ -123,7 +90,7 @@ module _ (l : List ℕ) (s : ℕ) (ok : imageCheck l ≡ Accepted) (next : nextF
   freed : Freed (header l) (header (setHeader l s freeHeader)) s
   freed =
       record {
-        here = header-same freeHeader (header-fits (accepted-image l ok .sized) (next-spent l (slotsOf l) s next .below));
+        here = header-same freeHeader (header-fits (accepted-says l ok .sized) (next-spent l (slotsOf l) s next .below));
         there = λ t d. header-other l s t freeHeader d;
       }
 
@@ -155,10 +122,6 @@ module _ (l : List ℕ) (s : ℕ) (ok : imageCheck l ≡ Accepted) (next : nextF
 
 -- ---- acceptance goes by the survivors, but for properness and versions
 module _ {l l′ : List ℕ} (same : SameSurvivors l l′) where
-  head-same : headCheck l′ ≡ headCheck l
-  unfolding headCheck shapeOk
-  head-same = rw (same .long, same .slots, same .width, same .clock)
-
   named-same : (s : ℕ) → s < slotsOf l → nameless l′ (slotsOf l) (widthOf l) s ≡ nameless l (slotsOf l) (widthOf l) s
   unfolding nameless
   named-same s h = rw (same .survivors s h, same .keys s)
@@ -176,16 +139,22 @@ pub step-accepted : (l : List ℕ) (s : ℕ) → imageCheck l ≡ Accepted → n
 step-accepted l s ok next =
     let same = step-keeps l s ok next in
     let f = freed l s ok next in
-    let was = accepted-image l ok in
+    let was = accepted-says l ok in
     let before = was .sound in
-    sound-accepted (setHeader l s freeHeader) (head-same same ∙ was .head)
-    (rw (same .slots, same .width)
+    says-accepted (setHeader l s freeHeader)
     record {
-      all-proper = λ t h. rw (same .clock) (freed-proper (clockOf l) f t (before .all-proper t h));
-      named = λ t h. named-same same t h ∙ before .named t h;
-      versions = λ t h. rw (same .clock) (freed-versions (clockOf l) f t (before .versions t h));
-      keys = λ t h. keys-same same t h ∙ before .keys t h;
-    })
+      sized = rw (same .slots, same .width) (sized-after (same .long) (was .sized));
+      clock-lo = rw (same .clock) (was .clock-lo);
+      clock-hi = rw (same .clock) (was .clock-hi);
+      sound =
+          rw (same .slots, same .width)
+          record {
+            all-proper = λ t h. rw (same .clock) (freed-proper (clockOf l) f t (before .all-proper t h));
+            named = λ t h. named-same same t h ∙ before .named t h;
+            versions = λ t h. rw (same .clock) (freed-versions (clockOf l) f t (before .versions t h));
+            keys = λ t h. keys-same same t h ∙ before .keys t h;
+          };
+    }
 
 -- ---- where nothing is left to free
 none-next : (l : List ℕ) (n : ℕ) → nextFreed l n ≡ Nothing → (s : ℕ) → s < n → (stale l n s ≡ false) × (antiAt l s ≡ false)
@@ -209,7 +178,7 @@ done-survivors l e s h =
 pub survivor-named : (l : List ℕ) → imageCheck l ≡ Accepted → (s : ℕ) → s < slotsOf l → survivor l (slotsOf l) s ≡ true → keyAt l (slotsOf l) (widthOf l) s ≢ 0
 unfolding nameless
 survivor-named l ok s h v e =
-    never (nameless l (slotsOf l) (widthOf l) s) (and-both v (eq-eqb _ 0 e)) (accepted-image l ok .sound .named s h)
+    never (nameless l (slotsOf l) (widthOf l) s) (and-both v (eq-eqb _ 0 e)) (accepted-says l ok .sound .named s h)
 
 key-once : (l : List ℕ) → imageCheck l ≡ Accepted → (s t : ℕ) → s < slotsOf l → t < s → survivor l (slotsOf l) s ≡ true → survivor l (slotsOf l) t ≡ true
     → keyAt l (slotsOf l) (widthOf l) t ≢ keyAt l (slotsOf l) (widthOf l) s
@@ -218,7 +187,7 @@ key-once l ok s t h u v x e =
     let n = slotsOf l in
     let w = widthOf l in
     let below = some-at (survivesAs l n w (keyAt l n w s)) s t u (and-both x (eq-eqb _ _ e)) in
-    never (keyBelow l n w s) (and-both v below) (accepted-image l ok .sound .keys s h)
+    never (keyBelow l n w s) (and-both v below) (accepted-says l ok .sound .keys s h)
 
 pub survivors-apart : (l : List ℕ) → imageCheck l ≡ Accepted → (s t : ℕ) → s < slotsOf l → t < slotsOf l → s ≢ t → survivor l (slotsOf l) s ≡ true
     → survivor l (slotsOf l) t ≡ true → keyAt l (slotsOf l) (widthOf l) s ≢ keyAt l (slotsOf l) (widthOf l) t

@@ -49,3 +49,8 @@ answered (Refused r) k = declinedNumber r
 pub not-refused : (b : Bool) (r : Refusal) (next : Check) → refuse b r next ≡ Accepted → (b ≡ false) × (next ≡ Accepted)
 not-refused true r next e = let z : _≡_ {A = ℕ} 0 1 = cc in absurd (omega arith)
 not-refused false r next e = (refl, e)
+
+-- two checks in a row both accepted
+pub both-accepted : (a b : Check) → andThen a b ≡ Accepted → (a ≡ Accepted) × (b ≡ Accepted)
+both-accepted Accepted b e = (refl, e)
+both-accepted (Refused r) b e = let z : _≡_ {A = ℕ} 0 1 = cc in absurd (omega arith)

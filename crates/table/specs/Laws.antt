@@ -1,14 +1,14 @@
 -- Get/set laws of filling a slot and of rewriting its value.
-use Prim.Native.Nat.{ℕ, suc, _+_, _*_, _-_, _≤_, _<_}
-use mathlib.Core.Path.{_≡_, refl, sym, ap, _∙_}
+use Prim.Native.Nat.{ℕ, suc, _+_, _-_, _<_}
+use mathlib.Core.Path.{_≡_, sym, _∙_}
 use mathlib.Core.Logic.{_≢_, inl, inr}
 use mathlib.Core.List.{List, _∷_}
-use lib.ListN.{length, getD, getD-replicate}
+use lib.ListN.{length, getD}
 use lib.Seq.{ext-getD}
 use native.Mathlib.Omega.{arith}
 use native.Mathlib.Decide.{decLt, ℕ-discrete}
 use Rattle.image.specs.declared.header.Header.{Header}
-use Rattle.image.specs.Layout.{contentsAt, header, contents, keyAt, stored, setContents, setHeader, Slot}
+use Rattle.image.specs.Layout.{contentsAt, header, contents, keyAt, stored, setContents, Slot}
 use Rattle.image.specs.Laws.{length-stored, stored-outside, stored-inside, length-setHeader, header-same, header-other, contents-setHeader, front-setHeader, length-setContents, contents-same, contents-other, header-setContents, front-setContents, slot-after}
 use Rattle.image.specs.Code.{header-fits}
 use Rattle.table.specs.Fill.{setValue, filledSlot}

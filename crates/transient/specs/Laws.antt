@@ -1,8 +1,8 @@
 -- Get/set laws of the notes: each reader after each writer.
-use Prim.Native.Nat.{ℕ, _+_, _*_, _%_, _≤_, _<_}
-use mathlib.Core.Path.{_≡_, refl, sym, ap, _∙_}
+use Prim.Native.Nat.{ℕ, _+_, _%_, _≤_, _<_}
+use mathlib.Core.Path.{_≡_, _∙_}
 use mathlib.Core.Logic.{_≢_, _⊎_, inl, inr, ⊎-elim}
-use mathlib.Core.Bool.{Bool, true, false, not, cond}
+use mathlib.Core.Bool.{true, false}
 use mathlib.Core.List.{List}
 use lib.ListN.{length, getD, set, replicate, length-set, getD-replicate}
 use lib.Seq.{getD-set-same, getD-set-other}
@@ -10,9 +10,8 @@ use lib.Dec.{eqb}
 use borrow.Author.Tests.{eq-eqb, ne-eqb, eqb-true, eqb-false}
 use native.Mathlib.Omega.{arith}
 use Rattle.search.specs.Bools.{cases}
-use Rattle.image.specs.Layout.{stored}
 use Rattle.image.specs.Laws.{length-stored, stored-outside, stored-inside}
-use Rattle.transient.specs.Layout.{lastTaken, nextUidOf, placePhase, placeSlot, openEpoch, retiredIn, listBase, waitingAt, isWaiting, setLast, setNextUid, setOpen, setRetired, setWaiting, setPlace, emptied, blank, Notes, NoteOf, ThreadOf}
+use Rattle.transient.specs.Layout.{nextUidOf, placePhase, placeSlot, openEpoch, retiredIn, listBase, waitingAt, setLast, setNextUid, setOpen, setRetired, setWaiting, setPlace, emptied, Notes}
 
 -- a list's flags lie within the notes
 pub base-top : (n e : ℕ) → listBase n e ≤ n
