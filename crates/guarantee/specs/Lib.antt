@@ -3,6 +3,7 @@ pub mod Promise
 pub mod Theorem
 pub mod Worked
 pub mod Syncs
+pub mod Stores
 pub mod View
 pub mod Good
 pub mod Notes
