@@ -1,11 +1,9 @@
--- Demand 3, as a statement. 01: "For every list of calls by any threads, wherever among the single stores into lasting memory the
--- power fails .. recovery completes, with exactly the starting jobs changed by the accepted changes of operations whose epoch is at
--- most c − 2, in call order."
+-- What demand 3 promises of a cut: where a run may start, what the jobs of an image are, and what recovery gives.
 use Prim.Native.Nat.{ℕ, _+_, _-_, _≤_, _<_}
 use mathlib.Core.Path.{_≡_}
 use mathlib.Core.Bool.{Bool, true, _&&_}
 use mathlib.Core.Logic.{_≢_}
-use mathlib.Core.List.{List, _∷_, List·Memᴰ}
+use mathlib.Core.List.{List, List·Memᴰ}
 use mathlib.Core.Option.{Option, none, some}
 use lib.Dec.{eqb}
 use Rattle.search.specs.First.{firstOf}
@@ -20,7 +18,7 @@ use Rattle.recovery.specs.declared.Recovery.the-variants.{Done}
 use Rattle.recovery.specs.Recover.{recover}
 use Rattle.recovery.specs.Completes.{AnyWords, call, Completes}
 use Rattle.crash.specs.Reference.{Name, Value, Jobs, jobsAt}
-use Rattle.guarantee.specs.Trace.{Call, Moment, startOf, run}
+use Rattle.guarantee.specs.Trace.{Moment}
 
 -- ---- the jobs of an image: its survivors, by key
 unfoldable pub survivesAs : List ℕ → Name → ℕ → Bool
@@ -59,8 +57,3 @@ pub record Promise (start : Jobs) (m : Moment) : Type 0 where
   pub working : (any : AnyWords (m .store .persistent)) (c : Completes any) → Holds (call any (c .before) .store .working) (present start m)
   -- an operation that ended before a sync that reported done is present
   pub durable : (e : ℕ) → List·Memᴰ e (m .plain .durable) → e + 2 ≤ m .plain .clock
-
--- the whole claim: a cut before the first call, or at any moment passed
-abbrev pub Demand3 : Type 0
-Demand3 = (st : Store) → Started st → (calls : List Call) (m : Moment) → List·Memᴰ m (startOf st ∷ run calls (startOf st) .passed)
-    → Promise (jobsOf (st .persistent)) m

@@ -2,18 +2,22 @@
 use Prim.Native.Nat.{ℕ, zero, suc, _+_, _*_, _≤_}
 use mathlib.Core.Path.{_≡_, refl}
 use mathlib.Core.Logic.{_⊎_, ⊎-elim}
-use mathlib.Core.List.{List, [], _∷_, List·Memᴰ, List·Memᴰ·append-cases, List·Memᴰ·eq-of-singleton, List·Memᴰ·not-nil}
+use mathlib.Core.List.{List·Memᴰ·cases-cons, List, [], _∷_, List·Memᴰ, List·Memᴰ·append-cases, List·Memᴰ·eq-of-singleton, List·Memᴰ·not-nil}
 use native.Mathlib.Omega.{arith}
 use Rattle.reply.specs.declared.Check.{Check}
 use Rattle.reply.specs.declared.Check.the-variants.{Accepted, Refused}
-use Rattle.image.specs.Layout.{slotsOf}
+use Rattle.image.specs.Layout.{slotsOf, widthOf}
+use Rattle.transient.specs.Store.{Store}
+use Rattle.transient.specs.Entry.{threads}
 use Rattle.epochs.specs.declared.Advance.{Advance}
 use Rattle.epochs.specs.declared.Advance.the-variants.{WentOn, Ticked, Declined}
 use Rattle.epochs.specs.Advance.{advance}
 use Rattle.epochs.specs.Sync.{syncCheck, mostLines}
 use Rattle.crash.specs.Reference.{Jobs}
-use Rattle.guarantee.specs.Trace.{Line, Call, begins, ends, news, sets, deletes, reads, advances, syncs, writesBack, Plain, toldAdvance, toldDone, Moment, moment, Trace, stay, one, andThen, begun, ended, newed, reset, removed, advanced, lineBack, linesBack, firstLines, laterLines, onward, advancing, syncing, synced, through, run}
+use Rattle.guarantee.specs.Trace.{Line, Call, begins, ends, news, sets, deletes, reads, advances, syncs, writesBack, Plain, toldAdvance, toldDone, Moment, moment, Trace, stay, one, andThen, begun, ended, newed, reset, removed, advanced, lineBack, linesBack, firstLines, laterLines, onward, advancing, syncing, synced, through, run, startOf, moments}
+use Rattle.guarantee.specs.Promise.{jobsOf, Started}
 use Rattle.guarantee.specs.Good.{Good}
+use Rattle.guarantee.specs.Starting.{start-good}
 use Rattle.guarantee.specs.Opening.{begin-good, end-good}
 use Rattle.guarantee.specs.Making.{new-good}
 use Rattle.guarantee.specs.Replacing.{set-good, delete-good}
@@ -126,3 +130,17 @@ module _ (n w t : ℕ) (start : Jobs) where
   unfolding run
   run-good [] m g = good-stay m g
   run-good (c ∷ cs) m g = let a = through-good c m g in good-then (through c m) (run cs) a (run-good cs (through c m .last) (a .last))
+
+-- ---- from a start
+pub moments-good : {st : Store} → Started st → (calls : List Call) (m : Moment) → List·Memᴰ m (moments st calls)
+    → Good (slotsOf (st .working)) (widthOf (st .working)) (threads st) (jobsOf (st .persistent)) (m .store) (m .plain)
+unfolding moments
+moments-good {st} s calls m i =
+    let n = slotsOf (st .working) in
+    let w = widthOf (st .working) in
+    let jobs = jobsOf (st .persistent) in
+    let all = run-good n w (threads st) jobs calls (startOf st) (start-good s) in
+    ⊎-elim (λ q. at-start q (start-good s)) (λ j. all .passed m j) (List·Memᴰ·cases-cons i)
+  where
+    at-start : {n w t : ℕ} {jobs : Jobs} → m ≡ startOf st → Good n w t jobs st (startOf st .plain) → Good n w t jobs (m .store) (m .plain)
+    at-start q g = rw q g

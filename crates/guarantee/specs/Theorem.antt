@@ -1,21 +1,17 @@
--- Demand 3, proved. The statement stands in Promise.antt, on the run of Trace.antt; docs/ARCHITECTURE.md has the map of the proof.
-use mathlib.Core.Logic.{⊎-elim}
-use mathlib.Core.Path.{_≡_}
-use mathlib.Core.List.{List·Memᴰ·cases-cons}
-use Rattle.image.specs.Layout.{slotsOf, widthOf}
-use Rattle.transient.specs.Entry.{threads}
-use Rattle.guarantee.specs.Trace.{startOf}
-use Rattle.guarantee.specs.Promise.{jobsOf, Demand3}
-use Rattle.guarantee.specs.Starting.{start-good}
-use Rattle.guarantee.specs.Running.{GoodAt, run-good}
+-- Demand 3: one theorem, of the whole list.
+--
+-- Let a store be what format left, or what a recover call left that replied "done". Let any threads make any list of calls on it,
+-- with any arguments, refused ones included, while the memory writes any lines back. Let the power fail at any moment: before the
+-- first call, or after any single store into the persistent image, also within a sync. Then recovery completes, with any words in
+-- working and notes before each of its calls, so also with a cut in it as often as may be; and it gives exactly the starting jobs
+-- changed by the accepted changes of operations whose epoch is at most c − 2, in call order, c being the persistent clock at the
+-- cut. What had ended when a sync last reported done is among them.
+use mathlib.Core.List.{List, List·Memᴰ}
+use Rattle.transient.specs.Store.{Store}
+use Rattle.guarantee.specs.Trace.{Call, Moment, moments}
+use Rattle.guarantee.specs.Promise.{jobsOf, Started, Promise}
+use Rattle.guarantee.specs.Running.{moments-good}
 use Rattle.guarantee.specs.Cutting.{cut-promise}
 
-pub demand-3 : Demand3
-demand-3 st s calls m i =
-    let begins = start-good s in
-    let all = run-good (slotsOf (st .working)) (widthOf (st .working)) (threads st) (jobsOf (st .persistent)) calls (startOf st) begins in
-    cut-promise (⊎-elim (λ q. at-start q begins) (λ j. all .passed m j) (List·Memᴰ·cases-cons i))
-  where
-    at-start : m ≡ startOf st → GoodAt (slotsOf (st .working)) (widthOf (st .working)) (threads st) (jobsOf (st .persistent)) (startOf st) →
-        GoodAt (slotsOf (st .working)) (widthOf (st .working)) (threads st) (jobsOf (st .persistent)) m
-    at-start q g = rw q g
+pub demand-3 : (st : Store) → Started st → (calls : List Call) (m : Moment) → List·Memᴰ m (moments st calls) → Promise (jobsOf (st .persistent)) m
+demand-3 st s calls m i = cut-promise (moments-good s calls m i)

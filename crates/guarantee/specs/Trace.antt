@@ -179,3 +179,7 @@ through (writesBack k) m = one (lineBack k m)
 unfoldable pub run : List Call → Moment → Trace
 run [] m = stay m
 run (c ∷ cs) m = andThen (through c m) (run cs)
+
+-- "A cut falls before, between or after a run's calls": before the first, or at any moment passed
+unfoldable pub moments : Store → List Call → List Moment
+moments st calls = startOf st ∷ run calls (startOf st) .passed
