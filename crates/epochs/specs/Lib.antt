@@ -1,3 +1,4 @@
 pub mod Advance
 pub mod Sync
 pub mod WriteBack
+pub mod Code
