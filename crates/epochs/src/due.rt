@@ -17,15 +17,7 @@ fn retired_due(r: u32, c: u32) -> bool
 }
 
 // Does nothing need the slot any more, from clock c on?
-fn due(
-    working: &[u32],
-    transient: &[u32],
-    n: usize,
-    w: usize,
-    t: usize,
-    c: u32,
-    s: usize,
-) -> bool
+fn due(working: &[u32], transient: &[u32], n: usize, w: usize, t: usize, c: u32, s: usize) -> bool
     requires { ⌜ TableSlot (now working) (now transient) n w t s ⌝ }
     ensures { λ r. ⌜ r ≡ due (now (working .entry)) (now (transient .entry)) t c s ⌝ }
 {

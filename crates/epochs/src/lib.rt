@@ -1,8 +1,13 @@
 // Advance, sync and lines written back: how what working holds becomes lasting.
 use reply::Refusal;
+
+pub mod advancing;
 pub mod due;
 pub mod lines;
+pub mod open;
 pub mod step;
+pub mod syncing;
+pub mod write_back;
 
 // The place an advance has reached.
 pub struct Place {
