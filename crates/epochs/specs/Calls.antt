@@ -150,7 +150,7 @@ unfolding budget
 budget-is wk tr zero h = absurd (omega arith)
 budget-is wk tr (suc k) h = let q : suc k - 1 ≡ k = omega arith in rw q
 
-budget-tick : (wk tr wk′ tr′ : List ℕ) (k : ℕ) → slotsOf wk′ ≡ slotsOf wk → placePhase tr′ ≡ 0 → 1 ≤ left (slotsOf wk) (placePhase tr) (placeSlot tr) → budget wk′ tr′ k < budget wk tr (suc k)
+pub budget-tick : (wk tr wk′ tr′ : List ℕ) (k : ℕ) → slotsOf wk′ ≡ slotsOf wk → placePhase tr′ ≡ 0 → 1 ≤ left (slotsOf wk) (placePhase tr) (placeSlot tr) → budget wk′ tr′ k < budget wk tr (suc k)
 unfolding budget
 budget-tick wk tr wk′ tr′ zero e p h = omega arith
 budget-tick wk tr wk′ tr′ (suc j) e p h =

@@ -5,3 +5,4 @@ pub mod Code
 pub mod Entry
 pub mod Left
 pub mod Calls
+pub mod Kept

@@ -10,15 +10,18 @@ use native.Mathlib.Nat.{eq-or-lt-of-le}
 use native.Mathlib.Omega.{arith}
 use Rattle.search.specs.First.{found-cases}
 use Rattle.search.specs.Count.{count, count-top}
+use Rattle.search.specs.declared.Found.{Found}
 use Rattle.search.specs.declared.Found.the-variants.{At, Nothing}
-use Rattle.reply.specs.declared.Check.the-variants.{Accepted}
+use Rattle.reply.specs.declared.Check.{Check}
+use Rattle.reply.specs.declared.Check.the-variants.{Accepted, Refused}
+use Rattle.reply.specs.declared.Refusal.{Refusal}
 use Rattle.image.specs.Layout.{header, slotsOf, setHeader, freeHeader}
 use Rattle.transient.specs.Store.{Store, store}
 use Rattle.survival.specs.Survivors.{survivor}
 use Rattle.acceptance.specs.Accept.{imageCheck}
-use Rattle.recovery.specs.Recover.{nextFreed, lengthsFit, recoverEntryCheck, recoverCheck, Recovered, finished, freeing, recover}
+use Rattle.recovery.specs.Recover.{nextFreed, lengthsFit, recoverEntryCheck, recoverCheck, Recovered, finished, freeing, judged, recover}
 use Rattle.recovery.specs.Steps.{SameSurvivors, filledAt, step-keeps, step-accepted, step-lowers, done-survivors}
-use Rattle.recovery.specs.declared.Recovery.the-variants.{WentOn, Done}
+use Rattle.recovery.specs.declared.Recovery.the-variants.{WentOn, Done, Declined}
 
 -- "working and notes hold any words. So too in recovery": what they hold before call i, of lengths that fit the lasting image l
 pub record AnyWords (l : List ℕ) : Type 0 where
@@ -172,3 +175,16 @@ recovery-completes l ok any = completes-after l ok any (slotsOf l) 0 (omega arit
 pub recovery-rebuilds : (l : List ℕ) → imageCheck l ≡ Accepted → (any : AnyWords l) (c : Completes any)
     → Rebuilt l (length (any .transient (c .before))) (call any (c .before) .store)
 recovery-rebuilds l ok any c = rebuilds l ok any c (call-cases l ok any (c .before) (reached l ok any (c .before) (c .went-on)))
+
+-- ---- a refused recover call leaves the store as it was
+pub recover-keeps : (st : Store) (r : Refusal) → recover st .reply ≡ Declined r → recover st .store ≡ st
+unfolding recover
+recover-keeps st r = go (recoverCheck st)
+  where
+    freed : (f : Found) → freeing f st (slotsOf (st .persistent)) .reply ≡ Declined r → freeing f st (slotsOf (st .persistent)) .store ≡ st
+    freed (At s) d = let z : _≡_ {A = ℕ} 0 1 = cc in absurd (omega arith)
+    freed Nothing d = let z : _≡_ {A = ℕ} 0 1 = cc in absurd (omega arith)
+
+    go : (k : Check) → judged k st (slotsOf (st .persistent)) .reply ≡ Declined r → judged k st (slotsOf (st .persistent)) .store ≡ st
+    go (Refused q) d = refl
+    go Accepted d = freed (nextFreed (st .persistent) (slotsOf (st .persistent))) d
