@@ -56,10 +56,10 @@ module _ (wk l tr : List ℕ) (n w t c : ℕ) {phase s : ℕ} (p : phase ≡ pla
       let d = z .advancing .notes .slots-hi in
       omega arith
 
-  pub place-noted : {r : Advance} {wk′ l′ tr′ tr″ : List ℕ} {x : Place} {m : ℕ} → stepped r wk′ l′ tr′ x ≡ step wk l tr n w t c (place phase s) → m ≡ x .slot
-      → tr″ ≡ setPlace tr′ (x .phase) m → advanced r wk′ l′ tr″ ≡ noteStep wk l tr n w t c
+  pub place-noted : {r : Advance} {wk′ l′ tr′ tr″ : List ℕ} {x : Place} {m : ℕ} {a : Advance} → stepped r wk′ l′ tr′ x ≡ step wk l tr n w t c (place phase s) → m ≡ x .slot
+      → tr″ ≡ setPlace tr′ (x .phase) m → a ≡ r → advanced a wk′ l′ tr″ ≡ noteStep wk l tr n w t c
   unfolding noteStep
-  place-noted {r} {wk′} {l′} {tr′} {tr″} {x} {m} e f g = rw (g, f, ← p, ← q) (ap noted e)
+  place-noted {r} {wk′} {l′} {tr′} {tr″} {x} {m} e f g i = rw (i, g, f, ← p, ← q) (ap noted e)
 
 -- ---- advance
 unfoldable pub advanceAt : List ℕ → List ℕ → List ℕ → ℕ → ℕ → ℕ → Advanced

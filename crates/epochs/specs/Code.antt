@@ -248,6 +248,11 @@ pub record Freed (wk l : List ℕ) (s : ℕ) (wk′ l′ : List ℕ) : Type 0 wh
 pub freed-both : (wk l : List ℕ) (s : ℕ) {g h : Header} {wk′ l′ : List ℕ} → g ≡ freeHeader → wk′ ≡ setHeader wk s g → h ≡ freeHeader → l′ ≡ setHeader l s h → Freed wk l s wk′ l′
 freed-both wk l s a p b q = record { working = rw (← a) p; persistent = rw (← b) q }
 
+-- what a step that did not decline replies
+abbrev pub replyOf : Bool → Advance
+replyOf true = Ticked
+replyOf false = WentOn
+
 -- ---- the steps' ways out
 pub reclaim-done : (wk l tr : List ℕ) (n t s : ℕ) {wk′ l′ tr′ : List ℕ} {p : Place} → Freed wk l s wk′ l′ → tr′ ≡ setRetired tr t s 0 → p ≡ passing n s 1 2
     → stepped WentOn wk′ l′ tr′ p ≡ reclaimed wk l tr n t s
