@@ -665,8 +665,10 @@ int main(int count, char **arguments)
             jobs = (uint32_t)number(value, 12, 600);
         } else if (strcmp(name, "--stops") == 0) {
             stops = (uint32_t)number(value, 36, 1800);
-        } else if (strcmp(name, "--cuts") == 0 && value != NULL && (strcmp(value, "all") == 0 || strcmp(value, "one") == 0)) {
-            all = strcmp(value, "all") == 0;
+        } else if (strcmp(name, "--cuts") == 0 && value != NULL && strcmp(value, "all") == 0) {
+            all = true;
+        } else if (strcmp(name, "--cuts") == 0 && value != NULL && strcmp(value, "one") == 0) {
+            all = false;
         } else {
             fprintf(stderr, "usage: demo [--seed NUMBER] [--cuts one|all] [--jobs NUMBER] [--stops NUMBER]\n");
             return 2;
