@@ -1,7 +1,7 @@
 -- What the proofs of this crate's functions cite.
 use Prim.Native.Nat.{ℕ, zero, suc, _+_, _*_, _-_, _≤_, _<_, _^_}
 use mathlib.Core.Path.{_≡_, refl, sym, ap, _∙_}
-use mathlib.Core.Bool.{Bool, true, false}
+use mathlib.Core.Bool.{Bool, true, false, _&&_}
 use mathlib.Core.List.{List, _∷_}
 use mathlib.Core.Logic.{⊎-elim}
 use lib.ListN.{length, set, replicate, getD-replicate}
@@ -53,33 +53,44 @@ slot-of z = z .slot
 pub header-of : {wk tr : List ℕ} {n w t s : ℕ} → TableSlot wk tr n w t s → HeaderFits wk n s
 header-of z = slot-header (z .slot)
 
--- ---- newer, live
-module _ (wk : List ℕ) (n w key e s : ℕ) {h : Header} {f : Bool} (at : h ≡ header wk s) (fl : f ≡ filledKind (h .kind)) where
-  pub newer-free : f ≡ false → false ≡ newerAt wk n w key e s
-  unfolding newerAt
-  newer-free t = rw (← at, ← fl, t)
+-- ---- newer, live: the key is the last part of the tests, and the first that is looked at
+and-no : (a : Bool) → false ≡ a && false
+and-no true = refl
+and-no false = refl
 
-  pub newer-key : {k : ℕ} → f ≡ true → k ≡ keyAt wk n w s → (k ≡ key → ⊥) → false ≡ newerAt wk n w key e s
-  unfolding newerAt
-  newer-key t q d = rw (← at, ← fl, t, ← q, ne-eqb _ key d)
+and-yes : (a : Bool) → a ≡ a && true
+and-yes true = refl
+and-yes false = refl
 
-  pub newer-epoch : {k : ℕ} → f ≡ true → k ≡ keyAt wk n w s → k ≡ key → ltb e (h .epoch) ≡ newerAt wk n w key e s
+module _ (wk : List ℕ) (n w key e s : ℕ) {k : ℕ} (q : k ≡ keyAt wk n w s) where
+  pub newer-other : (k ≡ key → ⊥) → false ≡ newerAt wk n w key e s
   unfolding newerAt
-  newer-epoch {k} t q d = rw (← at, ← fl, t, ← q, eq-eqb k key d)
+  newer-other d = rw (← q, ne-eqb k key d) (and-no (filledKind (header wk s .kind)))
 
-module _ (wk tr : List ℕ) (n w t key s : ℕ) {h : Header} {p : Bool} (at : h ≡ header wk s) (pl : p ≡ payloadKind (h .kind)) where
-  pub live-not : p ≡ false → false ≡ liveAt wk tr n w t key s
+  module _ {h : Header} {f : Bool} (d : k ≡ key) (at : h ≡ header wk s) (fl : f ≡ filledKind (h .kind)) where
+    pub newer-free : f ≡ false → false ≡ newerAt wk n w key e s
+    unfolding newerAt
+    newer-free t = rw (← at, ← fl, t)
+
+    pub newer-epoch : f ≡ true → ltb e (h .epoch) ≡ newerAt wk n w key e s
+    unfolding newerAt
+    newer-epoch t = rw (← at, ← fl, t, ← q, eq-eqb k key d)
+
+module _ (wk tr : List ℕ) (n w t key s : ℕ) {k : ℕ} (q : k ≡ keyAt wk n w s) where
+  pub live-other : (k ≡ key → ⊥) → false ≡ liveAt wk tr n w t key s
   unfolding liveAt
-  live-not e = rw (← at, ← pl, e)
+  live-other d =
+      rw (← q, ne-eqb k key d, ← and-no (eqb (retiredIn tr t s) 0))
+      (and-no (payloadKind (header wk s .kind)))
 
-  module _ {r : ℕ} (pt : p ≡ true) (re : r ≡ retiredIn tr t s) where
-    pub live-retired : (r ≡ 0 → ⊥) → false ≡ liveAt wk tr n w t key s
+  module _ {h : Header} {p : Bool} (d : k ≡ key) (at : h ≡ header wk s) (pl : p ≡ payloadKind (h .kind)) where
+    pub live-not : p ≡ false → false ≡ liveAt wk tr n w t key s
     unfolding liveAt
-    live-retired d = rw (← at, ← pl, pt, ← re, ne-eqb r 0 d)
+    live-not e = rw (← at, ← pl, e)
 
-    pub live-key : {k : ℕ} → r ≡ 0 → k ≡ keyAt wk n w s → eqb k key ≡ liveAt wk tr n w t key s
+    pub live-retired : {r : ℕ} → p ≡ true → r ≡ retiredIn tr t s → eqb r 0 ≡ liveAt wk tr n w t key s
     unfolding liveAt
-    live-key d q = rw (← at, ← pl, pt, ← re, eq-eqb r 0 d, ← q)
+    live-retired {r} e re = rw (← at, ← pl, e, ← re, ← q, eq-eqb k key d) (and-yes (eqb r 0))
 
 pub live-slot : (wk tr : List ℕ) (n w t key : ℕ) {r : Found} → r ≡ firstOf (liveAt wk tr n w t key) n → r ≡ liveSlot wk tr n w t key
 unfolding liveSlot
@@ -322,6 +333,6 @@ pub joined-done : (tr : List ℕ) (n t e s : ℕ) {b c : List ℕ} → b ≡ set
 unfolding joined
 joined-done tr n t e s r u = rw (u, r)
 
-pub ruleset finds = (tests, firsts, rounds, table-slot, working-slot, slot-header, slot-note, slot-of, header-of, newer-free, newer-key, newer-epoch, live-not, live-retired, live-key, live-slot, descending-start, descending-slot, descending-table, descending-live, descending-other, lookup-newer, lookup-live, lookup-absent, free-no, free-yes, ring-ahead, ring-round, ring-of, ring-header, rooms-all, rooms-rest, room-one, room-none, room-two, room-alone)
+pub ruleset finds = (tests, firsts, rounds, table-slot, working-slot, slot-header, slot-note, slot-of, header-of, newer-other, newer-free, newer-epoch, live-other, live-not, live-retired, live-slot, descending-start, descending-slot, descending-table, descending-live, descending-other, lookup-newer, lookup-live, lookup-absent, free-no, free-yes, ring-ahead, ring-round, ring-of, ring-header, rooms-all, rooms-rest, room-one, room-none, room-two, room-alone)
 
 pub ruleset fills = (zeros-start, zeros-next, storing-end, value-room, value-set, slot-value, value-slot, slot-after, header-after, filled-value, filled-zeros, note-head, note-slot, note-after, taken-done, joined-done)

@@ -14,13 +14,14 @@ pub enum Lookup {
     Absent,
 }
 
+// The key is looked at first: in most slots it is another one.
 fn newer_at(working: &[u32], n: usize, w: usize, key: u32, e: u32, s: usize) -> bool
     requires { ⌜ Slot (now working) n w s ⌝ }
     ensures { λ r. ⌜ r ≡ newerAt (now (working .entry)) n w key e s ⌝ }
 {
-    let h = image::header::header_at(working, n, s);
-    if image::header::filled(h.kind) {
-        if image::contents::key_at(working, n, w, s) == key {
+    if image::contents::key_at(working, n, w, s) == key {
+        let h = image::header::header_at(working, n, s);
+        if image::header::filled(h.kind) {
             e < h.epoch
         } else {
             false
@@ -42,10 +43,10 @@ fn live_at(
     requires { ⌜ TableSlot (now working) (now transient) n w t s ⌝ }
     ensures { λ r. ⌜ r ≡ liveAt (now (working .entry)) (now (transient .entry)) n w t key s ⌝ }
 {
-    let h = image::header::header_at(working, n, s);
-    if image::header::payload(h.kind) {
-        if transient::notes::retired_in(transient, n, t, s) == 0 {
-            image::contents::key_at(working, n, w, s) == key
+    if image::contents::key_at(working, n, w, s) == key {
+        let h = image::header::header_at(working, n, s);
+        if image::header::payload(h.kind) {
+            transient::notes::retired_in(transient, n, t, s) == 0
         } else {
             false
         }
