@@ -7,6 +7,8 @@ use Rattle.transient.specs.Store.{Store, store}
 use Rattle.image.specs.Layout.{sizesOk, imageWords}
 use Rattle.transient.specs.Layout.{transientWords}
 use Rattle.changes.specs.Changed.{Answer, replyNumber}
+use Rattle.epochs.specs.Advance.{Advanced, advance, advanceNumber}
+use Rattle.epochs.specs.Sync.{Synced, sync, syncNumber}
 use Rattle.recovery.specs.Recover.{Recovered, recover, recoveryNumber}
 
 pub record Called : Type 0 where
@@ -25,6 +27,18 @@ recoverCall st = recoveredCall (recover st)
 -- a call on jobs: 0 or the refusal
 unfoldable pub answerCall : Answer → Called
 answerCall a = record { number = replyNumber (a .reply); store = a .store }
+
+abbrev pub advancedCall : Advanced → Called
+advancedCall a = record { number = advanceNumber (a .reply); store = a .store }
+
+unfoldable pub advanceCall : Store → Called
+advanceCall st = advancedCall (advance st)
+
+abbrev pub syncedCall : Synced → Called
+syncedCall s = record { number = syncNumber (s .reply); store = s .store }
+
+unfoldable pub syncCall : Store → Called
+syncCall st = syncedCall (sync st)
 
 -- the lengths to allocate
 unfoldable pub imageLength : ℕ → ℕ → ℕ

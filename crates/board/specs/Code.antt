@@ -21,7 +21,14 @@ use Rattle.acceptance.specs.Questions.{Buffered, prefix-is, decoding, bytesOk, 
 use Rattle.recovery.specs.Recover.{recovered, recover, recoveryNumber}
 use Rattle.recovery.specs.declared.Recovery.{Recovery}
 use Rattle.recovery.specs.declared.Recovery.the-variants.{WentOn, Done, Declined}
-use Rattle.board.specs.Calls.{called, recoveredCall, recoverCall, answerCall, imageLength, transientLength}
+use Rattle.epochs.specs.declared.Advance.{Advance}
+use Rattle.epochs.specs.declared.Advance.the-variants as advance-reply
+use Rattle.epochs.specs.declared.Sync.{Sync}
+use Rattle.epochs.specs.declared.Sync.the-variants as sync-reply
+use Rattle.epochs.specs.Advance.{advance, advanceNumber}
+use Rattle.epochs.specs.Sync.{synced, sync, syncNumber}
+use Rattle.epochs.specs.Calls.{advanced}
+use Rattle.board.specs.Calls.{called, recoveredCall, recoverCall, answerCall, advancedCall, advanceCall, syncedCall, syncCall, imageLength, transientLength}
 
 -- ---- recover
 module _ (st : Store) {r : Recovery} {w p t : List ℕ} (e : recovered r w p t ≡ recover st) where
@@ -44,6 +51,38 @@ module _ (st : Store) {r : Recovery} {w p t : List ℕ} (e : recovered r w p t �
 pub answer-call : (a : Answer) {q : Check} {w p t : List ℕ} {r : ℕ} → answer q w p t ≡ a → r ≡ replyNumber q → called r w p t ≡ answerCall a
 unfolding answerCall
 answer-call a {q} {w} {p} {t} e h = rw h (ap (λ (x : Answer). record { number = replyNumber (x .reply); store = x .store }) e)
+
+-- ---- advance and sync
+module _ (st : Store) {r : Advance} {w p t : List ℕ} (e : advanced r w p t ≡ advance st) where
+  advance-whole : called (advanceNumber r) w p t ≡ advanceCall st
+  unfolding advanceCall
+  advance-whole = ap advancedCall e
+
+  pub advance-on : r ≡ advance-reply.WentOn → called 0 w p t ≡ advanceCall st
+  advance-on q = rw q at advance-whole
+
+  pub advance-ticked : r ≡ advance-reply.Ticked → called 1 w p t ≡ advanceCall st
+  advance-ticked q = rw q at advance-whole
+
+  pub advance-declined : {d : Refusal} {v : ℕ} → r ≡ advance-reply.Declined d → v ≡ declinedNumber d → called v w p t ≡ advanceCall st
+  advance-declined {d} q u =
+      let z : called (declinedNumber d) w p t ≡ advanceCall st = rw q at advance-whole in
+      rw u z
+
+module _ (st : Store) {r : Sync} {w p t : List ℕ} (e : synced r (store w p t) ≡ sync st) where
+  sync-whole : called (syncNumber r) w p t ≡ syncCall st
+  unfolding syncCall
+  sync-whole = ap syncedCall e
+
+  pub sync-done : {lines v : ℕ} → r ≡ sync-reply.Done lines → v ≡ lines → called v w p t ≡ syncCall st
+  sync-done {lines} q u =
+      let z : called lines w p t ≡ syncCall st = rw q at sync-whole in
+      rw u z
+
+  pub sync-declined : {d : Refusal} {v : ℕ} → r ≡ sync-reply.Declined d → v ≡ declinedNumber d → called v w p t ≡ syncCall st
+  sync-declined {d} q u =
+      let z : called (declinedNumber d) w p t ≡ syncCall st = rw q at sync-whole in
+      rw u z
 
 -- ---- lengths
 module _ (slots words : ℕ) {n w : ℕ} {s : Bool} (ne : n ≡ slots) (we : w ≡ words) (ok : s ≡ sizesOk n w) where
@@ -106,4 +145,4 @@ module _ (bytes : List ℕ) {b : Bool} {r : ℕ} (e : b ≡ bytesOk (length byte
   unfolding survivorsOfBytes
   survivors-refused t h = rw (← e, t) h
 
-pub ruleset laws = (answer-call, sizes-true, image-length, image-none, notes-none, notes-few, notes-many, notes-length, notes-fit, notes-whole, recover-on, recover-done, recover-declined, decoding, clock-of, survivors-of, clock-bytes, clock-refused, survivors-bytes, survivors-refused)
+pub ruleset laws = (answer-call, advance-on, advance-ticked, advance-declined, sync-done, sync-declined, sizes-true, image-length, image-none, notes-none, notes-few, notes-many, notes-length, notes-fit, notes-whole, recover-on, recover-done, recover-declined, decoding, clock-of, survivors-of, clock-bytes, clock-refused, survivors-bytes, survivors-refused)

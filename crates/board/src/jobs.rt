@@ -12,7 +12,7 @@ ghost use Rattle.changes.specs.Read.{read, readNumber, readPosition};
 ghost use Rattle.board.specs.Calls.{called, answerCall};
 
 // 0 for accepted, else 01's number of the refusal.
-fn reply_number(k: Check) -> u32
+pub fn reply_number(k: Check) -> u32
     ensures { λ r. ⌜ r ≡ replyNumber k ⌝ }
 {
     match k {

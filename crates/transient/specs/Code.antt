@@ -4,7 +4,7 @@ use mathlib.Core.Path.{_≡_, refl, sym, ap, _∙_}
 use mathlib.Core.Bool.{Bool, true, false, not, _&&_, _||_}
 use mathlib.Core.List.{List}
 use mathlib.Core.Logic.{⊎-elim}
-use lib.ListN.{length, getD, set, replicate}
+use lib.ListN.{length, getD, set, replicate, getD-replicate}
 use lib.Dec.{leb, ltb, eqb}
 use borrow.Author.Tests.{lt-ltb, le-ltb, le-leb, lt-leb, eq-eqb, ne-eqb, ltb-true, ltb-false, leb-true, eqb-true, not-false}
 use native.Mathlib.Omega.{arith}
@@ -15,10 +15,10 @@ use Rattle.reply.specs.declared.Check.the-variants.{Accepted, Refused}
 use Rattle.reply.specs.declared.Refusal.{Refusal}
 use Rattle.reply.specs.declared.Refusal.the-variants.{Sizes, Clock}
 use Rattle.reply.specs.Refusals.{refuse, not-refused}
-use Rattle.image.specs.Layout.{slotsOf, widthOf, clockOf, shapeOk, clockOk, Sized}
-use Rattle.image.specs.Code.{shaped}
+use Rattle.image.specs.Layout.{slotsOf, widthOf, clockOf, shapeOk, clockOk, Sized, stored}
+use Rattle.image.specs.Code.{shaped, Storing, storing-start, storing-next, storing-end}
 use Rattle.transient.specs.Store.{Store, store}
-use Rattle.transient.specs.Layout.{threadsOf, threadsOk, blank, lastTaken, nextUidOf, placeSlot, openEpoch, listBase, waitingAt, setLast, setNextUid, setOpen, setRetired, setWaiting, ThreadRoom, Notes, NoteOf, ThreadOf}
+use Rattle.transient.specs.Layout.{threadsOf, threadsOk, blank, lastTaken, nextUidOf, placeSlot, openEpoch, listBase, waitingAt, isWaiting, setLast, setNextUid, setOpen, setRetired, setWaiting, setPlace, emptied, ThreadRoom, Notes, NoteOf, ThreadOf}
 use Rattle.transient.specs.Laws.{base-top}
 use Rattle.transient.specs.Entry.{imagesFit, uidOk, notesFit, sizesFit, openOk, opensOk, clocksFit, threads, entryCheck}
 
@@ -73,7 +73,40 @@ module _ (tr : List ℕ) where
   unfolding setWaiting
   waiting-stored n t e s z = rw (z .same)
 
-pub ruleset laws = (tests, threads-few, threads-rest, blank-set, based-even, based-odd, last-stored, uid-stored, open-stored, retired-stored, waiting-stored)
+-- ---- the waiting lists
+pub waiting-is : (tr : List ℕ) (n t e s : ℕ) {b : ℕ} → Based n e b → not (eqb (getD tr (4 + t + n + b + s) 0) 0) ≡ isWaiting tr n t e s
+unfolding isWaiting
+waiting-is tr n t e s z = rw (← z .same)
+
+pub place-stored : (tr : List ℕ) (phase slot : ℕ) → set (set tr 2 phase) 3 slot ≡ setPlace tr phase slot
+unfolding setPlace
+place-stored tr phase slot = refl
+
+-- a loop has cleared j of k words
+abbrev pub Emptying : List ℕ → ℕ → ℕ → ℕ → List ℕ → Type 0
+Emptying l₀ b k j l = Storing l₀ b (replicate k 0) k j l
+
+pub emptying-start : (l : List ℕ) (b k : ℕ) → Emptying l b k 0 l
+emptying-start l b k = storing-start l b (replicate k 0) k
+
+pub emptying-next : {l₀ : List ℕ} {b k j : ℕ} {l : List ℕ} → Emptying l₀ b k j l → j < k → Emptying l₀ b k (j + 1) (set l (b + j) 0)
+emptying-next {l₀} {b} {k} {j} z h = storing-next z h (sym (getD-replicate k j 0 0 h))
+
+pub emptying-end : {l₀ : List ℕ} {b k j : ℕ} {l : List ℕ} → Emptying l₀ b k j l → k ≤ j → l ≡ stored l₀ b (replicate k 0) k
+emptying-end z h = storing-end z h
+
+pub list-room : (tr : List ℕ) (n t e : ℕ) {b : ℕ} → Notes tr n t → Based n e b → 4 + t + n + b + n ≤ length tr
+list-room tr n t e z y = omega (arith, z .long, y .top)
+
+pub list-emptied : (tr : List ℕ) (n t e : ℕ) {b : ℕ} {tr′ : List ℕ} → Based n e b → tr′ ≡ stored tr (4 + t + n + b) (replicate n 0) n → tr′ ≡ emptied tr n t e
+unfolding emptied
+list-emptied tr n t e z h =
+    let at : waitingAt n t e 0 ≡ 4 + t + n + listBase n e = omega arith in
+    rw (at, ← z .same) h
+
+pub ruleset emptying = (emptying-start, emptying-next, emptying-end, list-room, list-emptied)
+
+pub ruleset laws = (tests, waiting-is, place-stored, threads-few, threads-rest, blank-set, based-even, based-odd, last-stored, uid-stored, open-stored, retired-stored, waiting-stored)
 
 -- ---- refusal 1
 pub shape-second : (l : List ℕ) {s : Bool} → s ≡ shapeOk l → s ≡ true → 1 < length l

@@ -1,8 +1,9 @@
 // The notes' readers and writers.
 ghost use mathlib.Core.Path.{_≡_};
-ghost use Prim.Native.Nat.{_≤_, _<_};
-ghost use lib.ListN.{length};
-ghost use Rattle.transient.specs.Layout.{threadsOf, threadsOk, ThreadRoom, blank, Notes, NoteOf, ThreadOf, lastTaken, nextUidOf, openEpoch, retiredIn, setLast, setNextUid, setOpen, setRetired, setWaiting};
+ghost use Prim.Native.Nat.{_+_, _≤_, _<_};
+ghost use lib.ListN.{length, replicate};
+ghost use Rattle.image.specs.Layout.{stored};
+ghost use Rattle.transient.specs.Layout.{threadsOf, threadsOk, ThreadRoom, blank, Notes, NoteOf, ThreadOf, lastTaken, nextUidOf, placePhase, placeSlot, openEpoch, retiredIn, isWaiting, setLast, setNextUid, setOpen, setRetired, setWaiting, setPlace, emptied};
 ghost use Rattle.transient.specs.Code.{Based};
 
 // Does a slice of this length hold the notes of 1 to 16 threads, for `n` slots?
@@ -47,6 +48,20 @@ pub fn next_uid(transient: &[u32]) -> u32
     ensures { λ r. ⌜ r ≡ nextUidOf (now (transient .entry)) ⌝ }
 {
     transient[1]
+}
+
+pub fn place_phase(transient: &[u32]) -> u32
+    requires { ⌜ 4 ≤ length (now transient) ⌝ }
+    ensures { λ r. ⌜ r ≡ placePhase (now (transient .entry)) ⌝ }
+{
+    transient[2]
+}
+
+pub fn place_slot(transient: &[u32]) -> usize
+    requires { ⌜ 4 ≤ length (now transient) ⌝ }
+    ensures { λ r. ⌜ r ≡ placeSlot (now (transient .entry)) ⌝ }
+{
+    image::shape::wide(transient[3])
 }
 
 pub fn open_epoch(transient: &[u32], n: usize, t: usize, thread: usize) -> u32
@@ -104,4 +119,41 @@ pub fn set_waiting(transient: &mut [u32], n: usize, t: usize, e: u32, s: usize)
 {
     let b = list_base(n, e);
     transient[4 + t + n + b + s] = 1;
+}
+
+pub fn is_waiting(transient: &[u32], n: usize, t: usize, e: u32, s: usize) -> bool
+    requires { ⌜ NoteOf (now transient) n t s ⌝ }
+    ensures { λ r. ⌜ r ≡ isWaiting (now (transient .entry)) n t e s ⌝ }
+{
+    let b = list_base(n, e);
+    transient[4 + t + n + b + s] != 0
+}
+
+pub fn set_place(transient: &mut [u32], phase: u32, slot: u32)
+    requires { ⌜ 4 ≤ length (now transient) ⌝ }
+    ensures { λ _. ⌜ now (transient .exit) ≡ setPlace (now (transient .entry)) phase slot ⌝ }
+{
+    transient[2] = phase;
+    transient[3] = slot;
+}
+
+// The `k` words from `b` on become 0.
+fn clear_words(l: &mut [u32], b: usize, k: usize)
+    requires { ⌜ b + k ≤ length (now l) ⌝ }
+    ensures { λ _. ⌜ now (l .exit) ≡ stored (now (l .entry)) b (replicate k 0) k ⌝ }
+{
+    let mut j = 0;
+    while j < k {
+        l[b + j] = 0;
+        j += 1;
+    }
+}
+
+// Nothing waits in e's list.
+pub fn empty_list(transient: &mut [u32], n: usize, t: usize, e: u32)
+    requires { ⌜ Notes (now transient) n t ⌝ }
+    ensures { λ _. ⌜ now (transient .exit) ≡ emptied (now (transient .entry)) n t e ⌝ }
+{
+    let b = list_base(n, e);
+    clear_words(transient, 4 + t + n + b, n);
 }

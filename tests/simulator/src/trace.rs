@@ -33,13 +33,25 @@ struct Replay<'a, 'b> {
     random: Random,
     engine: &'a mut Engine<'b>,
     counts: &'a mut Counts,
+    stores: u64,
+    every: u64,
 }
 
-/// Makes the calls; an error is the first thing that is not as it should be.
+/// Makes the calls, with a crash after each store; an error is the first thing that is not as it should be.
 pub fn replay(trace: &Trace, engine: &mut Engine, counts: &mut Counts) -> Result<(), String> {
+    replay_with_some_crashes(trace, engine, counts, 1)
+}
+
+/// The same with a crash after one of so many stores.
+pub fn replay_with_some_crashes(
+    trace: &Trace,
+    engine: &mut Engine,
+    counts: &mut Counts,
+    every: u64,
+) -> Result<(), String> {
     let reference = Reference::of(&trace.start).map_err(|refusal| format!("start refused with {refusal}"))?;
     let random = Random::new(trace.calls.len() as u64);
-    let mut replay = Replay { store: trace.start.clone(), reference, random, engine, counts };
+    let mut replay = Replay { store: trace.start.clone(), reference, random, engine, counts, stores: 0, every };
     replay.crash()?;
     for (number, call) in trace.calls.iter().enumerate() {
         replay.make(call).map_err(|what| format!("call {number}, {call:?}: {what}"))?;
@@ -103,6 +115,10 @@ impl Replay<'_, '_> {
     }
 
     fn crash(&mut self) -> Result<(), String> {
+        self.stores += 1;
+        if !self.stores.is_multiple_of(self.every) {
+            return Ok(());
+        }
         self.counts.crashes += 1;
         let went_on = check_crash(&self.store, &self.reference, &mut self.random, self.engine)?;
         self.counts.went_on += went_on as u64;

@@ -1,17 +1,15 @@
-//! Format, begin, end, new, set, delete, read and the lengths, on honest, damaged and wild stores.
+//! Every call and the lengths, on honest, damaged and wild stores.
 //! Usage: calls SEED COUNT
 
-use differential::library::{change, compare, lengths};
+use differential::library::{any, compare, lengths};
 use differential::numbers;
 use differential::smallest::Smallest;
-use simulator::calls::{image_words, refusal_of, simulate, transient_words, Call};
-use simulator::damage::{damage_length, damaged_store, edge_word, wild_store};
-use simulator::generator::{epoch_call, job_call, start, unformatted};
+use simulator::calls::{image_words, refusal_of, transient_words, Call};
+use simulator::damage::{any_image, damage_length, damaged_store, edge_word, wild_store};
+use simulator::generator::{any_call, start, unformatted, Mix};
+use simulator::image::Sizes;
 use simulator::random::Random;
 use simulator::store::Store;
-
-/// The refusals these calls can give.
-const REFUSALS: [usize; 11] = [1, 2, 5, 6, 7, 8, 9, 10, 11, 12, 13];
 
 /// Upper ends for the number of slots, most of them small.
 const MOST_SLOTS: [u32; 12] = [4, 5, 6, 7, 8, 8, 9, 9, 12, 24, 64, 1024];
@@ -34,20 +32,21 @@ fn main() {
         test.formats(slots);
         test.lengths(slots);
         test.honest(slots);
+        test.recoveries(slots);
         let wild = wild_store(&mut test.random, slots);
         test.changes(wild, 12);
     }
     let Test { calls, accepted, refusals, smallest, .. } = test;
     smallest.report(seed);
     println!("{calls} calls, no difference, {accepted} accepted, refusals by number {refusals:?}, seed {seed}");
-    assert!(REFUSALS.iter().all(|&refusal| refusals[refusal] >= 100), "too few of some refusal");
+    assert!(refusals[1..].iter().all(|&seen| seen >= 100), "too few of some refusal");
 }
 
 impl Test {
     /// One call on both sides. The store goes on as the simulator leaves it.
     fn make(&mut self, store: &mut Store, call: &Call) {
         self.calls += 1;
-        match compare(store, call, change) {
+        match compare(store, call, any) {
             Ok(reply) => match refusal_of(call, reply) {
                 0 => self.accepted += 1,
                 refusal => self.refusals[refusal as usize] += 1,
@@ -58,27 +57,34 @@ impl Test {
 
     fn changes(&mut self, mut store: Store, count: usize) {
         for _ in 0..count {
-            let call = job_call(&mut self.random, &store, 4);
+            let call = any_call(&mut self.random, &store, Mix { advances: 30, keys: 4 });
             self.make(&mut store, &call);
         }
     }
 
-    /// A run whose epochs move on by the simulator's hand, with side steps into damaged copies of the store.
+    /// A run, with side steps into damaged copies of the store and into a recovery of what it would leave.
     fn honest(&mut self, slots: u32) {
         let mut store = start(&mut self.random, slots);
-        let keys = self.random.between(2, slots + 2);
+        let mix = Mix { advances: self.random.pick(&[10, 30, 60]), keys: self.random.between(2, slots + 2) };
         for _ in 0..80 {
-            if self.random.chance(30) {
-                let call = epoch_call(&mut self.random, &store);
-                simulate(&mut store, &call);
-                continue;
-            }
-            let call = job_call(&mut self.random, &store, keys);
+            let call = any_call(&mut self.random, &store, mix);
             self.make(&mut store, &call);
             if self.random.chance(10) {
                 let damaged = damaged_store(&mut self.random, &store);
+                self.make(&mut damaged.clone(), &Call::Recover);
                 self.changes(damaged, 5);
             }
+        }
+    }
+
+    /// One recover call each on a few images of any sort.
+    fn recoveries(&mut self, slots: u32) {
+        let words = self.random.between(2, 9);
+        let sizes = Sizes::new(slots.min(24), words).expect("these sizes are in range");
+        for _ in 0..3 {
+            let mut store = unformatted(&mut self.random, slots.min(24), words, 2);
+            store.persistent = any_image(&mut self.random, sizes);
+            self.make(&mut store, &Call::Recover);
         }
     }
 

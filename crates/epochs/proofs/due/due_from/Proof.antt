@@ -1,0 +1,27 @@
+-- `due_from`: a search from p on (`From`).
+use borrow.Author.Needs.{needs}
+use Rattle.epochs.specs.Advance.{due}
+use Rattle.epochs.specs.Code.{From, dues}
+use Prim.Native.Nat.{_-_}
+use Rattle.epochs.proofs.due.due_from.Statement.{statement}
+use Rattle.epochs.proofs.due.due_from.Tie as tie
+
+abbrev Inv-loop : tie.InvT-loop
+Inv-loop working transient n w t c p s₀ s = From (due working transient t c) n p s
+
+abbrev μ-loop : tie.MeasureT-loop
+μ-loop working transient n w t c p s₀ s = n - s
+
+pub due-from-spec : {M : Type 1} → statement M
+due-from-spec =
+    tie.close
+    (tie.spec
+    Inv-loop
+    μ-loop
+    (λ c. search (needs, dues))
+    (λ c κs. search (needs, dues))
+    (λ c. search (needs, dues))
+    (λ c. search (needs, dues))
+    (λ c. search (needs, dues))
+    (λ c. search (needs, dues))
+    (λ c. search (needs, dues)))

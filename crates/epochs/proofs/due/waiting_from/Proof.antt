@@ -1,0 +1,28 @@
+-- `waiting_from`: a search from p on (`From`).
+use borrow.Author.Needs.{needs}
+use Rattle.transient.specs.Layout.{isWaiting}
+use Rattle.epochs.specs.Code.{From, waits}
+use Prim.Native.Nat.{_-_}
+use Rattle.epochs.proofs.due.waiting_from.Statement.{statement}
+use Rattle.epochs.proofs.due.waiting_from.Tie as tie
+
+abbrev Inv-loop : tie.InvT-loop
+Inv-loop transient n t c p s₀ s = From (isWaiting transient n t (c - 1)) n p s
+
+abbrev μ-loop : tie.MeasureT-loop
+μ-loop transient n t c p s₀ s = n - s
+
+pub waiting-from-spec : {M : Type 1} → statement M
+waiting-from-spec =
+    tie.close
+    (tie.spec
+    Inv-loop
+    μ-loop
+    (λ c. search (needs, waits))
+    (λ c. search (needs, waits))
+    (λ c κs. search (needs, waits))
+    (λ c. search (needs, waits))
+    (λ c. search (needs, waits))
+    (λ c. search (needs, waits))
+    (λ c. search (needs, waits))
+    (λ c. search (needs, waits)))

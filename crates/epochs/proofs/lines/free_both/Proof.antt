@@ -1,0 +1,18 @@
+-- `free_both`: each way out is a law.
+use borrow.Author.Needs.{needs}
+use Rattle.epochs.specs.Code.{lines}
+use Rattle.image.specs.Laws.{length-setHeader}
+use Rattle.epochs.proofs.lines.free_both.Statement.{statement}
+use Rattle.epochs.proofs.lines.free_both.Tie as tie
+
+pub free-both-spec : {M : Type 1} → statement M
+free-both-spec =
+    tie.close
+    (tie.spec
+    (λ c κs. search (needs, lines))
+    (λ c κs. search (needs, lines))
+    (λ c κs. search (needs, lines))
+    (λ c κs. search (needs, lines))
+    (λ c. search (needs, lines))
+    (λ c. search (needs, lines))
+    (λ c. search (needs, lines)))

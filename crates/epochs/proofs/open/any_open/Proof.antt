@@ -1,0 +1,27 @@
+-- `any_open`: a search (`Sought`).
+use borrow.Author.Needs.{needs}
+use Rattle.search.specs.First.{Sought}
+use Rattle.epochs.specs.Entry.{openAt, opens}
+use Prim.Native.Nat.{_-_}
+use Rattle.epochs.proofs.open.any_open.Statement.{statement}
+use Rattle.epochs.proofs.open.any_open.Tie as tie
+
+abbrev Inv-loop : tie.InvT-loop
+Inv-loop transient n t thread₀ thread = Sought (openAt transient) t thread
+
+abbrev μ-loop : tie.MeasureT-loop
+μ-loop transient n t thread₀ thread = t - thread
+
+pub any-open-spec : {M : Type 1} → statement M
+any-open-spec =
+    tie.close
+    (tie.spec
+    Inv-loop
+    μ-loop
+    (λ c. search (needs, opens))
+    (λ c κs. search (needs, opens))
+    (λ c. search (needs, opens))
+    (λ c. search (needs, opens))
+    (λ c. search (needs, opens))
+    (λ c. search (needs, opens))
+    (λ c. search (needs, opens)))

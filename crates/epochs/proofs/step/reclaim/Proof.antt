@@ -1,0 +1,17 @@
+-- `reclaim`: each way out is a law.
+use borrow.Author.Needs.{needs}
+use Rattle.epochs.specs.Code.{lines, steps}
+use Rattle.epochs.proofs.step.reclaim.Statement.{statement}
+use Rattle.epochs.proofs.step.reclaim.Tie as tie
+
+pub reclaim-spec : {M : Type 1} → statement M
+reclaim-spec =
+    tie.close
+    (tie.spec
+    (λ c κs. search (needs, lines, steps))
+    (λ c κs. search (needs, lines, steps))
+    (λ c κs. search (needs, lines, steps))
+    (λ c. search (needs, lines, steps))
+    (λ c. search (needs, lines, steps))
+    (λ c. search (needs, lines, steps))
+    (λ c. search (needs, lines, steps)))

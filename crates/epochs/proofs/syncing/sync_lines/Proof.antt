@@ -1,0 +1,37 @@
+-- `sync_lines`: the calls left are enough (`Syncing`), and each lowers the budget.
+use mathlib.Core.Logic.{⊎-elim}
+use borrow.Author.Needs.{needs}
+use Rattle.epochs.specs.Calls.{budget, Syncing, syncs}
+use Prim.Native.Nat.{_-_}
+use Rattle.epochs.proofs.syncing.sync_lines.Statement.{statement}
+use Rattle.epochs.proofs.syncing.sync_lines.Tie as tie
+
+abbrev Inv-loop : tie.InvT-loop
+Inv-loop working₀ persistent₀ transient₀ ticks₀ lines₀ working persistent transient ticks lines = Syncing working₀ persistent₀ transient₀ ticks lines working persistent transient
+
+abbrev μ-loop : tie.MeasureT-loop
+μ-loop working₀ persistent₀ transient₀ ticks₀ lines₀ working persistent transient ticks lines = budget working transient ticks
+
+pub sync-lines-spec : {M : Type 1} → statement M
+sync-lines-spec =
+    tie.close
+    (tie.spec
+    Inv-loop
+    μ-loop
+    (λ c. search (needs, syncs))
+    (λ c κs. search (needs, syncs))
+    (λ c. search (needs, syncs))
+    (λ c. search (needs, syncs))
+    (λ c. search (needs, syncs))
+    (λ c. search (needs, syncs))
+    (λ c. search (needs, syncs))
+    (λ c. search (needs, syncs))
+    (λ c. search (needs, syncs))
+    (λ c. search (needs, syncs))
+    (λ c. search (needs, syncs))
+    (λ c. ⊎-elim (λ u. search (needs, syncs)) (λ u. search (needs, syncs)) (c .match .came))
+    (λ c. ⊎-elim (λ u. search (needs, syncs)) (λ u. search (needs, syncs)) (c .match .came))
+    (λ c. search (needs, syncs))
+    (λ c. search (needs, syncs))
+    (λ c. search (needs, syncs))
+    (λ c. search (needs, syncs)))

@@ -1,0 +1,317 @@
+-- What the proofs of the steps of advance cite.
+use Prim.Native.Nat.{ℕ, zero, suc, _+_, _*_, _-_, _≤_, _<_, _^_}
+use mathlib.Core.Path.{_≡_, refl, sym, ap, _∙_}
+use mathlib.Core.Bool.{Bool, true, false, not, cond, _&&_, _||_}
+use mathlib.Core.List.{List}
+use mathlib.Core.Logic.{⊎-elim}
+use lib.ListN.{length}
+use lib.Dec.{leb, ltb, eqb}
+use mir.Val.{Fits}
+use mir.Syntax.{w32}
+use borrow.Author.Tests.{lt-ltb, le-ltb, le-leb, lt-leb, eq-eqb, ne-eqb, leb-true}
+use native.Mathlib.Numerals.{add-one}
+use native.Mathlib.Omega.{arith}
+use Rattle.search.specs.Bools.{and-left}
+use Rattle.search.specs.First.{firstOf, Sought, sought-start, sought-next, found-hit, found-end, found-first}
+use Rattle.search.specs.declared.Found.{Found}
+use Rattle.search.specs.declared.Found.the-variants.{At, Nothing}
+use Rattle.image.specs.declared.header.Header.{Header}
+use Rattle.image.specs.Layout.{payloadKind, header, contents, freeHeader, setHeader, setContents, setClock, Sized, Slots, HeaderFits}
+use Rattle.image.specs.Laws.{sized-after}
+use Rattle.image.specs.Code.{slot, header-fits}
+use Rattle.transient.specs.Layout.{placePhase, placeSlot, retiredIn, isWaiting, setRetired, setPlace, emptied, Notes, NoteOf}
+use Rattle.table.specs.Code.{Table, TableSlot, slot-header, slot-note}
+use Rattle.epochs.specs.declared.Place.{Place}
+use Rattle.epochs.specs.declared.Advance.{Advance}
+use Rattle.epochs.specs.declared.Advance.the-variants.{WentOn, Ticked}
+use Rattle.epochs.specs.Advance.{Stepped, stepped, place, passing, due, dueFrom, reclaimed, waitingFrom, contentsLine, headerLine, ticking, flushFrom, reclaimFrom, step}
+
+-- ---- a search that starts at p: the slots below it fail
+pub record From (q : ℕ → Bool) (n p s : ℕ) : Type 0 where
+  pub low : p ≤ s
+  pub top : s ≤ n
+  pub sought : Sought (λ k. leb p k && q k) n s
+
+below-from : (q : ℕ → Bool) (n p : ℕ) → p ≤ n → (i : ℕ) → i ≤ p → Sought (λ k. leb p k && q k) n i
+below-from q n p h zero l = sought-start (λ k. leb p k && q k) n
+below-from q n p h (suc i) l =
+    let miss : leb p i && q i ≡ false = rw (lt-leb p i (omega arith)) in
+    rw (add-one i) at (sought-next (below-from q n p h i (omega arith)) (omega arith) refl miss)
+
+pub from-start : (q : ℕ → Bool) (n p : ℕ) → p ≤ n → From q n p p
+from-start q n p h = record { low = omega arith; top = h; sought = below-from q n p h p (omega arith) }
+
+module _ {q : ℕ → Bool} {n p s : ℕ} {r : Bool} (z : From q n p s) (h : s < n) (e : r ≡ q s) where
+  at-or-above : r ≡ leb p s && q s
+  at-or-above = rw (le-leb p s (z .low)) e
+
+  pub from-next : r ≡ false → From q n p (s + 1)
+  from-next f = record { low = omega (arith, z .low); top = omega arith; sought = sought-next (z .sought) h at-or-above f }
+
+  pub from-hit : r ≡ true → At s ≡ firstOf (λ k. leb p k && q k) n
+  from-hit t = found-hit (z .sought) h at-or-above t
+
+pub from-end : {q : ℕ → Bool} {n p s : ℕ} → From q n p s → n ≤ s → Nothing ≡ firstOf (λ k. leb p k && q k) n
+from-end z h = found-end (z .sought) h
+
+-- ---- step 1: due
+unfoldable pub retiredDue : ℕ → ℕ → Bool
+retiredDue r c = not (eqb r 0) && eqb (r + 2) c
+
+pub retired-none : (r c : ℕ) → r ≡ 0 → false ≡ retiredDue r c
+unfolding retiredDue
+retired-none r c h = rw (eq-eqb r 0 h)
+
+pub retired-due : (r c : ℕ) {a b : ℕ} → (r ≡ 0 → ⊥) → a ≡ r → b ≡ c → eqb (a + 2) b ≡ retiredDue r c
+unfolding retiredDue
+retired-due r c h p q = rw (ne-eqb r 0 h, p, q)
+
+delete-no-payload : payloadKind 3 ≡ false
+unfolding payloadKind
+delete-no-payload = refl
+
+or-none : (a : Bool) → a ≡ a || false
+or-none true = refl
+or-none false = refl
+
+module _ (wk tr : List ℕ) (t c s : ℕ) {h : Header} (at : h ≡ header wk s) where
+  pub due-delete : {a b : ℕ} → h .kind ≡ 3 → a ≡ h .epoch → b ≡ c → eqb (a + 3) b ≡ due wk tr t c s
+  unfolding due
+  due-delete k p q = rw (← at, k, delete-no-payload, p, q)
+
+  module _ {p : Bool} (k : h .kind ≡ 3 → ⊥) (pl : p ≡ payloadKind (h .kind)) where
+    pub due-other : p ≡ false → false ≡ due wk tr t c s
+    unfolding due
+    due-other e = rw (← at, ne-eqb (h .kind) 3 k, ← pl, e)
+
+    pub due-retired : {r : ℕ} {d : Bool} → p ≡ true → r ≡ retiredIn tr t s → d ≡ retiredDue r c → d ≡ due wk tr t c s
+    unfolding due retiredDue
+    due-retired {r} e re d = rw (← at, ne-eqb (h .kind) 3 k, ← pl, e, ← re, ← or-none (not (eqb r 0) && eqb (r + 2) c)) d
+
+pub record Walking (wk tr : List ℕ) (n w t p : ℕ) : Type 0 where
+  pub table : Table wk tr n w t
+  pub from : p ≤ n
+
+pub walking-start : {wk tr : List ℕ} {n w t p : ℕ} (c : ℕ) → Walking wk tr n w t p → From (due wk tr t c) n p p
+walking-start {wk} {tr} {n} {w} {t} {p} c z = from-start (due wk tr t c) n p (z .from)
+
+pub walking-slot : {wk tr : List ℕ} {n w t p s : ℕ} → Walking wk tr n w t p → s < n → TableSlot wk tr n w t s
+walking-slot z h = record { slot = slot (z .table .working) h; notes = z .table .notes }
+
+pub slot-head : {wk tr : List ℕ} {n w t s : ℕ} → TableSlot wk tr n w t s → HeaderFits wk n s
+slot-head z = slot-header (z .slot)
+
+pub slot-retired : {wk tr : List ℕ} {n w t s : ℕ} → TableSlot wk tr n w t s → NoteOf tr n t s
+slot-retired z = slot-note z
+
+module _ (wk tr : List ℕ) (n t c p : ℕ) {s : ℕ} (z : From (due wk tr t c) n p s) where
+  pub due-hit : {r : Bool} → s < n → r ≡ due wk tr t c s → r ≡ true → At s ≡ dueFrom wk tr n t c p
+  unfolding dueFrom
+  due-hit h e f = from-hit z h e f
+
+  pub due-end : n ≤ s → Nothing ≡ dueFrom wk tr n t c p
+  unfolding dueFrom
+  due-end h = from-end z h
+
+-- ---- step 2: waiting
+pub record Waiting (tr : List ℕ) (n t c p : ℕ) : Type 0 where
+  pub notes : Notes tr n t
+  pub from : p ≤ n
+  pub clock : 2 ≤ c
+
+pub waiting-start : {tr : List ℕ} {n t c p : ℕ} → Waiting tr n t c p → From (isWaiting tr n t (c - 1)) n p p
+waiting-start {tr} {n} {t} {c} {p} z = from-start (isWaiting tr n t (c - 1)) n p (z .from)
+
+pub waiting-note : {tr : List ℕ} {n t c p s : ℕ} → Waiting tr n t c p → s < n → NoteOf tr n t s
+waiting-note z h = record { notes = z .notes; within = h }
+
+module _ (tr : List ℕ) (n t c p : ℕ) {s : ℕ} (z : From (isWaiting tr n t (c - 1)) n p s) where
+  pub waiting-hit : {r : Bool} → s < n → r ≡ isWaiting tr n t (c - 1) s → r ≡ true → At s ≡ waitingFrom tr n t c p
+  unfolding waitingFrom
+  waiting-hit h e f = from-hit z h e f
+
+  pub waiting-end : n ≤ s → Nothing ≡ waitingFrom tr n t c p
+  unfolding waitingFrom
+  waiting-end h = from-end z h
+
+-- what a slot found is
+pub record Between (n p s : ℕ) : Type 0 where
+  pub from : p ≤ s
+  pub below : s < n
+
+found-between : (q : ℕ → Bool) (n p : ℕ) {s : ℕ} → firstOf (λ k. leb p k && q k) n ≡ At s → Between n p s
+found-between q n p {s} e =
+    let f = found-first (λ k. leb p k && q k) n e in
+    record { from = leb-true p s (and-left (leb p s) (q s) (f .passes)); below = f .below }
+
+pub due-between : (wk tr : List ℕ) (n t c p : ℕ) {s : ℕ} → dueFrom wk tr n t c p ≡ At s → Between n p s
+unfolding dueFrom
+due-between wk tr n t c p e = found-between (due wk tr t c) n p e
+
+pub waiting-between : (tr : List ℕ) (n t c p : ℕ) {s : ℕ} → waitingFrom tr n t c p ≡ At s → Between n p s
+unfolding waitingFrom
+waiting-between tr n t c p e = found-between (isWaiting tr n t (c - 1)) n p e
+
+-- ---- places
+pub passing-on : (n s phase next : ℕ) → s + 1 < n → place phase (s + 1) ≡ passing n s phase next
+unfolding passing
+passing-on n s phase next h = rw (lt-ltb (s + 1) n h)
+
+pub passing-over : (n s phase next : ℕ) → n ≤ s + 1 → place next 0 ≡ passing n s phase next
+unfolding passing
+passing-over n s phase next h = rw (le-ltb (s + 1) n h)
+
+-- ---- what a step requires: both images and the notes of one size, and a clock that can go up
+pub record Advancing (wk l tr : List ℕ) (n w t c : ℕ) : Type 0 where
+  pub working : Sized wk n w
+  pub persistent : Sized l n w
+  pub notes : Notes tr n t
+  pub clock-lo : 2 ≤ c
+  pub clock-hi : c < 4000000000
+
+-- .. from a slot on, or at one
+pub record Going (wk l tr : List ℕ) (n w t c p : ℕ) : Type 0 where
+  pub advancing : Advancing wk l tr n w t c
+  pub within : p < n
+
+pub record Both (wk l : List ℕ) (n w s : ℕ) : Type 0 where
+  pub working : Sized wk n w
+  pub persistent : Sized l n w
+  pub within : s < n
+
+pub both-working : {wk l : List ℕ} {n w s : ℕ} → Both wk l n w s → HeaderFits wk n s
+both-working z = header-fits (z .working) (z .within)
+
+pub both-persistent : {wk l : List ℕ} {n w s : ℕ} → Both wk l n w s → HeaderFits l n s
+both-persistent z = header-fits (z .persistent) (z .within)
+
+pub both-slots : {wk l : List ℕ} {n w s : ℕ} → Both wk l n w s → Slots wk l n w s
+both-slots z = record { first = slot (z .working) (z .within); second = slot (z .persistent) (z .within) }
+
+pub both-next : {wk l : List ℕ} {n w s : ℕ} → Both wk l n w s → s < 1024
+both-next z = let y = z .working in let h = z .within in omega arith
+
+pub going-both : {wk l tr : List ℕ} {n w t c p : ℕ} → Going wk l tr n w t c p → Both wk l n w p
+going-both z = record { working = z .advancing .working; persistent = z .advancing .persistent; within = z .within }
+
+pub going-note : {wk l tr : List ℕ} {n w t c p : ℕ} → Going wk l tr n w t c p → NoteOf tr n t p
+going-note z = record { notes = z .advancing .notes; within = z .within }
+
+pub going-next : {wk l tr : List ℕ} {n w t c p : ℕ} → Going wk l tr n w t c p → p < 1024
+going-next z = both-next (going-both z)
+
+pub going-advancing : {wk l tr : List ℕ} {n w t c p : ℕ} → Going wk l tr n w t c p → Advancing wk l tr n w t c
+going-advancing z = z .advancing
+
+pub going-walking : {wk l tr : List ℕ} {n w t c p : ℕ} → Going wk l tr n w t c p → Walking wk tr n w t p
+going-walking z = record { table = record { working = z .advancing .working; notes = z .advancing .notes }; from = omega (arith, z .within) }
+
+pub going-waiting : {wk l tr : List ℕ} {n w t c p : ℕ} → Going wk l tr n w t c p → Waiting tr n t c p
+going-waiting z = record { notes = z .advancing .notes; from = omega (arith, z .within); clock = z .advancing .clock-lo }
+
+pub going-first : {wk l tr : List ℕ} {n w t c p : ℕ} → Going wk l tr n w t c p → Going wk l tr n w t c 0
+going-first z = record { advancing = z .advancing; within = omega (arith, z .within) }
+
+pub going-due : (wk l tr : List ℕ) (n w t c p : ℕ) {s : ℕ} {f : Found} → Going wk l tr n w t c p → f ≡ dueFrom wk tr n t c p → f ≡ At s → Going wk l tr n w t c s
+going-due wk l tr n w t c p z e a = record { advancing = z .advancing; within = due-between wk tr n t c p (sym e ∙ a) .below }
+
+pub going-wait : (wk l tr : List ℕ) (n w t c p : ℕ) {s : ℕ} {f : Found} → Going wk l tr n w t c p → f ≡ waitingFrom tr n t c p → f ≡ At s → Both wk l n w s
+going-wait wk l tr n w t c p z e a =
+    record { working = z .advancing .working; persistent = z .advancing .persistent; within = waiting-between tr n t c p (sym e ∙ a) .below }
+
+pub advancing-working : {wk l tr : List ℕ} {n w t c : ℕ} → Advancing wk l tr n w t c → 3 ≤ length wk
+advancing-working z = let y = z .working in omega arith
+
+pub advancing-persistent : {wk l tr : List ℕ} {n w t c : ℕ} → Advancing wk l tr n w t c → 3 ≤ length l
+advancing-persistent z = let y = z .persistent in omega arith
+
+pub advancing-notes : {wk l tr : List ℕ} {n w t c : ℕ} → Advancing wk l tr n w t c → Notes tr n t
+advancing-notes z = z .notes
+
+pub advancing-next : {wk l tr : List ℕ} {n w t c : ℕ} → Advancing wk l tr n w t c → Fits w32 (c + 1)
+advancing-next z = omega (arith, z .clock-hi)
+
+-- ---- lines
+pub contents-written : (wk l : List ℕ) (n w s : ℕ) {l′ : List ℕ} → l′ ≡ setContents l n w s (contents wk n w s) → l′ ≡ contentsLine wk l n w s
+unfolding contentsLine
+contents-written wk l n w s e = e
+
+pub header-written : (wk l : List ℕ) (s : ℕ) {h : Header} {l′ : List ℕ} → h ≡ header wk s → l′ ≡ setHeader l s h → l′ ≡ headerLine wk l s
+unfolding headerLine
+header-written wk l s at e = rw (← at) e
+
+-- a slot is free in both images
+pub record Freed (wk l : List ℕ) (s : ℕ) (wk′ l′ : List ℕ) : Type 0 where
+  pub working : wk′ ≡ setHeader wk s freeHeader
+  pub persistent : l′ ≡ setHeader l s freeHeader
+
+pub freed-both : (wk l : List ℕ) (s : ℕ) {g h : Header} {wk′ l′ : List ℕ} → g ≡ freeHeader → wk′ ≡ setHeader wk s g → h ≡ freeHeader → l′ ≡ setHeader l s h → Freed wk l s wk′ l′
+freed-both wk l s a p b q = record { working = rw (← a) p; persistent = rw (← b) q }
+
+-- ---- the steps' ways out
+pub reclaim-done : (wk l tr : List ℕ) (n t s : ℕ) {wk′ l′ tr′ : List ℕ} {p : Place} → Freed wk l s wk′ l′ → tr′ ≡ setRetired tr t s 0 → p ≡ passing n s 1 2
+    → stepped WentOn wk′ l′ tr′ p ≡ reclaimed wk l tr n t s
+unfolding reclaimed
+reclaim-done wk l tr n t s f r p = rw (f .working, f .persistent, r, p)
+
+pub tick-done : (wk l tr : List ℕ) (n t c : ℕ) {wk′ l′ tr′ : List ℕ} → wk′ ≡ setClock wk (c + 1) → l′ ≡ setClock l (c + 1) → tr′ ≡ emptied tr n t (c - 1)
+    → stepped Ticked wk′ l′ tr′ (place 0 0) ≡ ticking wk l tr n t c
+unfolding ticking
+tick-done wk l tr n t c a b d = rw (a, b, d)
+
+module _ (wk l tr : List ℕ) (n w t c p : ℕ) {f : Found} (fe : f ≡ waitingFrom tr n t c p) where
+  pub flush-line : {s : ℕ} {l′ : List ℕ} → f ≡ At s → l′ ≡ contentsLine wk l n w s → stepped WentOn wk l′ tr (place 3 s) ≡ flushFrom wk l tr n w t c p
+  unfolding flushFrom
+  flush-line a e = rw (← fe, a, e)
+
+  pub flush-tick : {x : Stepped} → f ≡ Nothing → x ≡ ticking wk l tr n t c → x ≡ flushFrom wk l tr n w t c p
+  unfolding flushFrom
+  flush-tick a e = rw (← fe, a) e
+
+module _ (wk l tr : List ℕ) (n w t c p : ℕ) {f : Found} (fe : f ≡ dueFrom wk tr n t c p) where
+  pub reclaim-one : {s : ℕ} {x : Stepped} → f ≡ At s → x ≡ reclaimed wk l tr n t s → x ≡ reclaimFrom wk l tr n w t c p
+  unfolding reclaimFrom
+  reclaim-one a e = rw (← fe, a) e
+
+  pub reclaim-none : {x : Stepped} → f ≡ Nothing → x ≡ flushFrom wk l tr n w t c 0 → x ≡ reclaimFrom wk l tr n w t c p
+  unfolding reclaimFrom
+  reclaim-none a e = rw (← fe, a) e
+
+-- the header of a slot, after its contents
+unfoldable pub headed : List ℕ → List ℕ → List ℕ → ℕ → ℕ → Stepped
+headed wk l tr n s = stepped WentOn wk (headerLine wk l s) tr (passing n s 2 4)
+
+pub headed-done : (wk l tr : List ℕ) (n s : ℕ) {l′ : List ℕ} {p : Place} → l′ ≡ headerLine wk l s → p ≡ passing n s 2 4 → stepped WentOn wk l′ tr p ≡ headed wk l tr n s
+unfolding headed
+headed-done wk l tr n s e p = rw (e, p)
+
+module _ (wk l tr : List ℕ) (n w t c : ℕ) (p : Place) {x : Stepped} where
+  pub step-reclaim : p .phase ≡ 1 → x ≡ reclaimFrom wk l tr n w t c (p .slot) → x ≡ step wk l tr n w t c p
+  unfolding step
+  step-reclaim a e = rw (eq-eqb (p .phase) 1 a) e
+
+  pub step-flush : p .phase ≡ 2 → x ≡ flushFrom wk l tr n w t c (p .slot) → x ≡ step wk l tr n w t c p
+  unfolding step
+  step-flush a e = rw a e
+
+  pub step-header : p .phase ≡ 3 → x ≡ headed wk l tr n (p .slot) → x ≡ step wk l tr n w t c p
+  unfolding step headed
+  step-header a e = rw a e
+
+  pub step-tick : p .phase ≡ 4 → x ≡ ticking wk l tr n t c → x ≡ step wk l tr n w t c p
+  unfolding step
+  step-tick a e = rw a e
+
+  pub step-begin : (p .phase ≡ 1 → ⊥) → (p .phase ≡ 2 → ⊥) → (p .phase ≡ 3 → ⊥) → (p .phase ≡ 4 → ⊥) → x ≡ reclaimFrom wk l tr n w t c 0 → x ≡ step wk l tr n w t c p
+  unfolding step
+  step-begin a b d f e = rw (ne-eqb (p .phase) 1 a, ne-eqb (p .phase) 2 b, ne-eqb (p .phase) 3 d, ne-eqb (p .phase) 4 f) e
+
+pub ruleset dues = (from-next, retired-none, retired-due, due-delete, due-other, due-retired, walking-start, walking-slot, slot-head, slot-retired, due-hit, due-end)
+
+pub ruleset waits = (from-next, waiting-start, waiting-note, waiting-hit, waiting-end)
+
+pub ruleset lines = (both-working, both-persistent, both-slots, contents-written, header-written, freed-both, passing-on, passing-over)
+
+pub ruleset steps = (going-both, going-note, going-next, going-advancing, going-walking, going-waiting, going-first, going-due, going-wait, advancing-working, advancing-persistent, advancing-notes, advancing-next, reclaim-done, tick-done, flush-line, flush-tick, reclaim-one, reclaim-none, headed-done)
+
+pub ruleset stepping = (going-both, going-advancing, going-first, step-reclaim, step-flush, step-header, step-tick, step-begin)

@@ -1,0 +1,18 @@
+-- `is_waiting`: each way out is a law.
+use borrow.Author.Needs.{needs}
+use Rattle.transient.specs.Code.{laws}
+use Rattle.transient.proofs.notes.is_waiting.Statement.{statement}
+use Rattle.transient.proofs.notes.is_waiting.Tie as tie
+
+pub is-waiting-spec : {M : Type 1} → statement M
+is-waiting-spec =
+    tie.close
+    (tie.spec
+    (λ c κs. search (needs, laws))
+    (λ c. search (needs, laws))
+    (λ c. search (needs, laws))
+    (λ c. search (needs, laws))
+    (λ c. search (needs, laws))
+    (λ c. search (needs, laws))
+    (λ c. search (needs, laws))
+    (λ c. search (needs, laws)))

@@ -1,0 +1,47 @@
+//! A day of a busy board: 1,024 slots of 9 words and 16 threads, ten calls for each of 86,400 seconds, every one compared
+//! with the simulator, and a crash now and then whose recovery is held against the reference map.
+//! Started by hand: day SEED SECONDS STORES, with a crash after one of so many lasting stores.
+
+use differential::library::{any, compare};
+use differential::numbers;
+use simulator::calls::{simulate, Call};
+use simulator::generator::{any_call, unformatted, Mix};
+use simulator::random::Random;
+use simulator::store::Store;
+use simulator::trace::{replay_with_some_crashes, Counts, Trace};
+
+const SLOTS: u32 = 1024;
+const WORDS: u32 = 9;
+const THREADS: u32 = 16;
+const CALLS_A_SECOND: u64 = 10;
+
+fn main() {
+    let [seed, seconds, stores] = numbers("day SEED SECONDS STORES");
+    let mut random = Random::new(seed);
+    let start = fresh(&mut random);
+    let mut store = start.clone();
+    let mut calls = Vec::new();
+    for _ in 0..seconds * CALLS_A_SECOND {
+        let call = any_call(&mut random, &store, Mix { advances: 30, keys: 900 });
+        simulate(&mut store, &call);
+        calls.push(call);
+    }
+    let mut counts = Counts::default();
+    let trace = Trace { start, calls };
+    let mut compared = |store: &mut Store, call: &Call| compare(store, call, any);
+    if let Err(what) = replay_with_some_crashes(&trace, &mut compared, &mut counts, stores) {
+        panic!("seed {seed}: {what}");
+    }
+    let Counts { calls, crashes, went_on, refusals } = &counts;
+    let (first, last) = (trace.start.working[2], store.working[2]);
+    println!(
+        "{calls} calls on {SLOTS} slots and {THREADS} threads, clock {first} to {last}, {crashes} cuts, no difference, \
+         recover went on {went_on}, refusals by number {refusals:?}, seed {seed}"
+    );
+}
+
+fn fresh(random: &mut Random) -> Store {
+    let mut store = unformatted(random, SLOTS, WORDS, THREADS);
+    assert_eq!(simulate(&mut store, &Call::Format { slots: SLOTS, words: WORDS }), 0);
+    store
+}
