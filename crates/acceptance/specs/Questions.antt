@@ -87,6 +87,9 @@ module _ (l : List ℕ) {k : Check} (c : k ≡ imageCheck l) where
   pub image-head : k ≡ Accepted → 3 ≤ length l
   image-head a = let z = image-sized l (sym c ∙ a) in omega arith
 
+  pub image-long : (j : ℕ) → k ≡ Accepted → j < 3 → j < length l
+  image-long j a h = let z = image-sized l (sym c ∙ a) in omega arith
+
 module _ (l : List ℕ) {k : Check} (c : k ≡ headCheck l) where
   pub survivors-declines : {r : Refusal} {v : ℕ} → k ≡ Refused r → v ≡ declinedNumber r → v ≡ survivorsAnswer l
   unfolding survivorsAnswer imageCheck
