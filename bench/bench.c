@@ -124,7 +124,7 @@ static void at_work(struct bed *b)
         next += part;
         end(b);
         if (epoch < 4)
-            while (board_advance(BED(b)) == BOARD_STEPPED)
+            while (board_advance(BED(b)) == BOARD_STORED)
                 ;
     }
 }
@@ -176,7 +176,7 @@ static uint64_t do_read_absent(const struct calls *c, struct bed *b) { return c-
 static uint64_t do_advance(const struct calls *c, struct bed *b)
 {
     uint64_t lines = 1;
-    while (c->advance(BED(b)) == BOARD_STEPPED)
+    while (c->advance(BED(b)) == BOARD_STORED)
         lines++;
     return lines;
 }

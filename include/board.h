@@ -33,7 +33,9 @@
  *   - you do it: use board_advance, which stores one line a call, and flush persistent before the
  *     next call that stores into it. board_sync stores many lines in one call: do not use it then.
  *
- * Begin, end, new, set, delete and read store nothing there, and are followed by no flush.
+ * Which line a call stored: an advance that goes on, one slot's contents or header; one that ticks,
+ * the clock, word 2; a recover that goes on, one slot's header. A host that does not look flushes the
+ * image. Begin, end, new, set, delete and read store nothing there, and are followed by no flush.
  *
  * AFTER A POWER CUT working and transient are lost and may hold anything. Map persistent again,
  * allocate the other two with the same sizes, and call board_recover until it answers BOARD_DONE.
@@ -72,9 +74,10 @@ enum board_refusal {
     BOARD_JOB_EXISTS = 11,   /* a live job of that key */
     BOARD_NO_UID = 12,       /* no uid is left to give */
     BOARD_FULL = 13,         /* too few free slots */
-    BOARD_STILL_OPEN = 14,   /* an operation is open that must end first */
-    BOARD_LAST_EPOCH = 15,   /* the clock is at its end */
-    BOARD_NO_LINE = 16       /* no such slot, or a line that is neither 0 nor 1 */
+    BOARD_STILL_OPEN = 14,   /* an operation must end first: for an advance that begins one open in the
+                                epoch before the clock's, for a sync any */
+    BOARD_LAST_EPOCH = 15,   /* the clock cannot go up by one (advance) or by two (sync) */
+    BOARD_NO_LINE = 16       /* the slot is not below N, or the line is neither 0 nor 1 */
 };
 
 /* A 64-bit answer of BOARD_REFUSED or more is a refusal: BOARD_REFUSED plus its number. */
@@ -184,22 +187,25 @@ uint32_t board_read_refusal(const uint32_t *working, size_t working_words,
 
 /* What one advance call did. */
 enum board_step {
-    BOARD_STEPPED = 0, /* it stored one line of persistent; the advance is not over */
-    BOARD_TICKED = 1   /* it stored the clock, which is one higher now: this advance is over */
+    BOARD_STORED = 0, /* it stored one line of persistent; the advance is not over */
+    BOARD_TICKED = 1  /* the line was the clock, which is one higher now: this advance is over */
 };
 
-/* One step of an advance: it stores exactly one line of persistent. Between the steps of an advance
- * any other call may be made. Call it from a timer, a step or a tick at a time. It answers
- * BOARD_STEPPED, BOARD_TICKED, or BOARD_REFUSED plus the refusal.
+/* One step of an advance: it stores exactly one line of persistent, from the place that the last one
+ * reached. It frees, one by one, the slots that nothing needs any more; then stores the contents and
+ * the header of each slot changed in the epoch before the clock's; then raises the clock in both
+ * images. Between the steps any other call may be made. Call it from a timer, a few lines or a tick
+ * at a time. It answers BOARD_STORED, BOARD_TICKED, or BOARD_REFUSED plus the refusal.
  * Refusals: BOARD_STILL_OPEN (at the start of an advance: an operation is open in the epoch before
  * the clock's), BOARD_LAST_EPOCH. */
 uint64_t board_advance(uint32_t *working, size_t working_words,
                        uint32_t *persistent, size_t persistent_words,
                        uint32_t *transient, size_t transient_words);
 
-/* Advance calls until two ticks have happened: every operation ended before is now safe from a power
- * cut. It answers the number of lines stored, or BOARD_REFUSED plus the refusal. Only for memory
- * that makes lines durable in their order by itself (see above).
+/* Advance calls until two have ticked (one underway counts): every operation ended before is now safe
+ * from a power cut. It answers the number of lines stored, two where nothing had changed and
+ * 2 (3N + 1) at most, or BOARD_REFUSED plus the refusal. Only for memory that makes lines durable in
+ * their order by itself (see above).
  * Refusals: BOARD_STILL_OPEN (any operation is open), BOARD_LAST_EPOCH. */
 uint64_t board_sync(uint32_t *working, size_t working_words,
                     uint32_t *persistent, size_t persistent_words,

@@ -14,7 +14,7 @@ _Static_assert(BOARD_NO_THREAD == 5 && BOARD_ALREADY_OPEN == 6 && BOARD_NOT_OPEN
                    BOARD_NEWER == 9 && BOARD_NO_JOB == 10 && BOARD_JOB_EXISTS == 11 && BOARD_NO_UID == 12 &&
                    BOARD_FULL == 13 && BOARD_STILL_OPEN == 14 && BOARD_LAST_EPOCH == 15 && BOARD_NO_LINE == 16,
                "the header's refusals");
-_Static_assert(BOARD_STEPPED == 0 && BOARD_TICKED == 1, "the header's replies");
+_Static_assert(BOARD_STORED == 0 && BOARD_TICKED == 1, "the header's replies");
 
 static size_t calls, failed;
 

@@ -1,7 +1,6 @@
 -- What the proofs of the calls cite: advance with its place in the notes, and sync's loop.
 use Prim.Native.Nat.{ℕ, zero, suc, _+_, _*_, _-_, _≤_, _<_, _^_}
 use mathlib.Core.Path.{_≡_, refl, sym, ap, _∙_}
-use mathlib.Core.Bool.{Bool, true, false, cond}
 use mathlib.Core.List.{List}
 use lib.ListN.{length}
 use mir.Val.{Fits}
@@ -13,22 +12,20 @@ use Rattle.reply.specs.declared.Check.{Check}
 use Rattle.reply.specs.declared.Check.the-variants.{Accepted, Refused}
 use Rattle.reply.specs.declared.Refusal.{Refusal}
 use Rattle.reply.specs.Refusals.{andThen}
-use Rattle.image.specs.Layout.{slotsOf, widthOf, clockOf}
+use Rattle.image.specs.Layout.{slotsOf, clockOf}
 use Rattle.transient.specs.Store.{Store, store}
 use Rattle.transient.specs.Layout.{placePhase, placeSlot, setPlace}
-use Rattle.transient.specs.Entry.{threads, entryCheck}
+use Rattle.transient.specs.Entry.{entryCheck}
 use Rattle.changes.specs.declared.sizes.Sizes as sizes-type
 use Rattle.changes.specs.Code.{sizesOf}
 use Rattle.epochs.specs.declared.Place.{Place}
 use Rattle.epochs.specs.declared.Advance.{Advance}
 use Rattle.epochs.specs.declared.Advance.the-variants.{WentOn, Ticked, Declined}
-use Rattle.epochs.specs.declared.Sync.{Sync}
 use Rattle.epochs.specs.declared.Sync.the-variants as sync-reply
-use Rattle.epochs.specs.declared.step.Moved.{Moved}
-use Rattle.epochs.specs.Advance.{Stepped, stepped, Advanced, place, placeOf, step, advanceCheck, noted, stepping, advance}
+use Rattle.epochs.specs.Advance.{stepped, Advanced, place, placeOf, step, advanceCheck, noted, stepping, advance}
 use Rattle.epochs.specs.Sync.{syncCheck, Synced, synced, syncing, mostLines, sync}
 use Rattle.epochs.specs.Code.{Going}
-use Rattle.epochs.specs.Entry.{Whole, whole-going, entry-admitted, entry-whole}
+use Rattle.epochs.specs.Entry.{Whole, whole-going, entry-whole}
 use Rattle.epochs.specs.Left.{left, left-top, left-low, step-goes, Moves, advance-moves}
 
 abbrev pub advanced : Advance → List ℕ → List ℕ → List ℕ → Advanced
@@ -56,10 +53,10 @@ module _ (wk l tr : List ℕ) (n w t c : ℕ) {phase s : ℕ} (p : phase ≡ pla
       let d = z .advancing .notes .slots-hi in
       omega arith
 
-  pub place-noted : {r : Advance} {wk′ l′ tr′ tr″ : List ℕ} {x : Place} {m : ℕ} → stepped r wk′ l′ tr′ x ≡ step wk l tr n w t c (place phase s) → m ≡ x .slot
-      → tr″ ≡ setPlace tr′ (x .phase) m → advanced r wk′ l′ tr″ ≡ noteStep wk l tr n w t c
+  pub place-noted : {r : Advance} {wk′ l′ tr′ tr″ : List ℕ} {x : Place} {m : ℕ} {a : Advance} → stepped r wk′ l′ tr′ x ≡ step wk l tr n w t c (place phase s) → m ≡ x .slot
+      → tr″ ≡ setPlace tr′ (x .phase) m → a ≡ r → advanced a wk′ l′ tr″ ≡ noteStep wk l tr n w t c
   unfolding noteStep
-  place-noted {r} {wk′} {l′} {tr′} {tr″} {x} {m} e f g = rw (g, f, ← p, ← q) (ap noted e)
+  place-noted {r} {wk′} {l′} {tr′} {tr″} {x} {m} e f g i = rw (i, g, f, ← p, ← q) (ap noted e)
 
 -- ---- advance
 unfoldable pub advanceAt : List ℕ → List ℕ → List ℕ → ℕ → ℕ → ℕ → Advanced

@@ -1,11 +1,10 @@
 -- What the proofs of the steps of advance cite.
-use Prim.Native.Nat.{ℕ, zero, suc, _+_, _*_, _-_, _≤_, _<_, _^_}
-use mathlib.Core.Path.{_≡_, refl, sym, ap, _∙_}
-use mathlib.Core.Bool.{Bool, true, false, not, cond, _&&_, _||_}
+use Prim.Native.Nat.{ℕ, zero, suc, _+_, _-_, _≤_, _<_}
+use mathlib.Core.Path.{_≡_, refl, sym, _∙_}
+use mathlib.Core.Bool.{Bool, true, false, not, _&&_, _||_}
 use mathlib.Core.List.{List}
-use mathlib.Core.Logic.{⊎-elim}
 use lib.ListN.{length}
-use lib.Dec.{leb, ltb, eqb}
+use lib.Dec.{leb, eqb}
 use mir.Val.{Fits}
 use mir.Syntax.{w32}
 use borrow.Author.Tests.{lt-ltb, le-ltb, le-leb, lt-leb, eq-eqb, ne-eqb, leb-true}
@@ -17,9 +16,8 @@ use Rattle.search.specs.declared.Found.{Found}
 use Rattle.search.specs.declared.Found.the-variants.{At, Nothing}
 use Rattle.image.specs.declared.header.Header.{Header}
 use Rattle.image.specs.Layout.{payloadKind, header, contents, freeHeader, setHeader, setContents, setClock, Sized, Slots, HeaderFits}
-use Rattle.image.specs.Laws.{sized-after}
 use Rattle.image.specs.Code.{slot, header-fits}
-use Rattle.transient.specs.Layout.{placePhase, placeSlot, retiredIn, isWaiting, setRetired, setPlace, emptied, Notes, NoteOf}
+use Rattle.transient.specs.Layout.{retiredIn, isWaiting, setRetired, emptied, Notes, NoteOf}
 use Rattle.table.specs.Code.{Table, TableSlot, slot-header, slot-note}
 use Rattle.epochs.specs.declared.Place.{Place}
 use Rattle.epochs.specs.declared.Advance.{Advance}
@@ -247,6 +245,11 @@ pub record Freed (wk l : List ℕ) (s : ℕ) (wk′ l′ : List ℕ) : Type 0 wh
 
 pub freed-both : (wk l : List ℕ) (s : ℕ) {g h : Header} {wk′ l′ : List ℕ} → g ≡ freeHeader → wk′ ≡ setHeader wk s g → h ≡ freeHeader → l′ ≡ setHeader l s h → Freed wk l s wk′ l′
 freed-both wk l s a p b q = record { working = rw (← a) p; persistent = rw (← b) q }
+
+-- what a step that did not decline replies
+abbrev pub replyOf : Bool → Advance
+replyOf true = Ticked
+replyOf false = WentOn
 
 -- ---- the steps' ways out
 pub reclaim-done : (wk l tr : List ℕ) (n t s : ℕ) {wk′ l′ tr′ : List ℕ} {p : Place} → Freed wk l s wk′ l′ → tr′ ≡ setRetired tr t s 0 → p ≡ passing n s 1 2

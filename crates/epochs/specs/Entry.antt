@@ -1,6 +1,6 @@
 -- What advance, sync and write-back know past refusals 1 and 2, and the ways out of their checks.
 use Prim.Native.Nat.{ℕ, _+_, _≤_, _<_}
-use mathlib.Core.Path.{_≡_, refl, sym, ap, _∙_}
+use mathlib.Core.Path.{_≡_, refl, sym, _∙_}
 use mathlib.Core.Bool.{Bool, true, false, not, cond, _&&_, _||_, true≢false}
 use mathlib.Core.Logic.{⊎-elim}
 use native.Mathlib.Nat.{eq-or-lt-of-le}
@@ -11,23 +11,21 @@ use borrow.Author.Tests.{lt-ltb, le-ltb, le-leb, lt-leb, eq-eqb, ne-eqb, leb-tru
 use native.Mathlib.Omega.{arith}
 use Rattle.search.specs.Bools.{cases, and-left, and-right, tests}
 use Rattle.search.specs.First.{Sought, sought-start, sought-next}
-use Rattle.search.specs.Some.{some, some-hit, some-end}
+use Rattle.search.specs.Some.{some-hit, some-end}
 use Rattle.reply.specs.declared.Check.{Check}
 use Rattle.reply.specs.declared.Check.the-variants.{Accepted, Refused}
 use Rattle.reply.specs.declared.Refusal.{Refusal}
 use Rattle.reply.specs.declared.Refusal.the-variants.{Sizes, Clock, StillOpen, LastEpoch, NoLine}
-use Rattle.reply.specs.Refusals.{refuse, andThen, not-refused}
-use Rattle.image.specs.Layout.{slotsOf, widthOf, clockOf, clockOk, Sized}
-use Rattle.transient.specs.Store.{Store, store}
+use Rattle.reply.specs.Refusals.{refuse, not-refused}
+use Rattle.image.specs.Layout.{slotsOf, widthOf, clockOf, clockOk}
+use Rattle.transient.specs.Store.{store}
 use Rattle.transient.specs.Layout.{threadsOf, placePhase, placeSlot, openEpoch, Notes, ThreadOf}
-use Rattle.transient.specs.Entry.{sizesFit, opensOk, clocksFit, threads, entryCheck}
+use Rattle.transient.specs.Entry.{sizesFit, clocksFit, threads, entryCheck}
 use Rattle.transient.specs.Code.{Sizing, sizing}
 use Rattle.changes.specs.declared.sizes.Sizes as sizes-type
 use Rattle.changes.specs.Code.{Sizable, sizesOf}
 use Rattle.changes.specs.Changed.{Answer, answer}
-use Rattle.epochs.specs.declared.Advance.{Advance}
-use Rattle.epochs.specs.declared.Advance.the-variants.{WentOn, Ticked, Declined}
-use Rattle.epochs.specs.Advance.{Advanced, placeOf, underway, openBelow, advanceCheck, stepping, step, advance, contentsLine, headerLine}
+use Rattle.epochs.specs.Advance.{underway, openBelow, advanceCheck, advance, contentsLine, headerLine}
 use Rattle.epochs.specs.Sync.{anyOpen, syncCheck}
 use Rattle.epochs.specs.WriteBack.{writeBackCheck, copied, writeBack}
 use Rattle.epochs.specs.Code.{Both, Going}
@@ -64,9 +62,6 @@ entry-admitted wk l tr c a =
     let y = entry-whole wk l tr (sym c ∙ a) in
     let z = y .sizing in
     record { sizable = record { long = omega arith; room = record { slots-hi = omega arith; room = omega arith } }; whole = y }
-
-pub admitted-sizable : {wk l tr : List ℕ} → Admitted wk l tr → Sizable wk tr
-admitted-sizable z = z .sizable
 
 pub admitted-whole : {wk l tr : List ℕ} {z : sizes-type.Sizes} → Admitted wk l tr → z ≡ sizesOf wk tr → Whole wk l tr (z .n) (z .w) (z .t)
 unfolding sizesOf

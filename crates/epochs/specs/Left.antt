@@ -1,13 +1,13 @@
 -- How many lines an advance can still store, from a place on: a step that goes on has less left, so an advance ticks after at
 -- most `mostLines n` calls. Sync rests on it.
 use Prim.Native.Nat.{ℕ, zero, suc, _+_, _*_, _-_, _≤_, _<_}
-use mathlib.Core.Path.{_≡_, refl, sym, ap, _∙_}
-use mathlib.Core.Bool.{Bool, true, false, cond}
+use mathlib.Core.Path.{_≡_, refl, sym, _∙_}
+use mathlib.Core.Bool.{true, false, cond}
 use mathlib.Core.List.{List}
 use mathlib.Core.Logic.{⊎-elim}
 use lib.ListN.{length}
 use lib.Dec.{ltb, eqb}
-use borrow.Author.Tests.{lt-ltb, le-ltb, eq-eqb, ne-eqb, eqb-true, eqb-false, ltb-true, ltb-false}
+use borrow.Author.Tests.{ne-eqb, ltb-true}
 use native.Mathlib.Omega.{arith}
 use Rattle.search.specs.Bools.{cases}
 use Rattle.search.specs.declared.Found.{Found}
@@ -16,19 +16,18 @@ use Rattle.reply.specs.declared.Check.{Check}
 use Rattle.reply.specs.declared.Check.the-variants.{Accepted, Refused}
 use Rattle.reply.specs.declared.Refusal.{Refusal}
 use Rattle.reply.specs.Refusals.{andThen}
-use Rattle.image.specs.Layout.{slotsOf, widthOf, clockOf, freeHeader, setHeader}
+use Rattle.image.specs.Layout.{slotsOf, widthOf, clockOf, freeHeader}
 use Rattle.image.specs.Laws.{front-setHeader, word-setClock}
-use Rattle.transient.specs.Store.{Store, store}
-use Rattle.transient.specs.Layout.{placePhase, placeSlot, threadsOf, Notes}
+use Rattle.transient.specs.Store.{store}
+use Rattle.transient.specs.Layout.{placePhase, placeSlot, Notes}
 use Rattle.transient.specs.Laws.{length-setRetired, length-emptied, notes-after, phase-set, slot-set}
 use Rattle.transient.specs.Entry.{threads, entryCheck}
 use Rattle.epochs.specs.declared.Place.{Place}
-use Rattle.epochs.specs.declared.Advance.{Advance}
 use Rattle.epochs.specs.declared.Advance.the-variants.{WentOn, Ticked, Declined}
 use Rattle.epochs.specs.Advance.{Stepped, Advanced, place, placeOf, passing, dueFrom, reclaimed, waitingFrom, ticking, flushing, flushFrom, reclaiming, reclaimFrom, step, advanceCheck, noted, stepping, advance}
 use Rattle.epochs.specs.Sync.{mostLines}
-use Rattle.epochs.specs.Code.{Between, due-between, waiting-between, headed, Going}
-use Rattle.epochs.specs.Entry.{Whole, entry-whole, whole-going}
+use Rattle.epochs.specs.Code.{Between, due-between, waiting-between, headed}
+use Rattle.epochs.specs.Entry.{entry-whole}
 
 -- the slots to look at while reclaiming, two lines a slot while flushing, and the clock
 unfoldable pub left : ℕ → ℕ → ℕ → ℕ

@@ -7,7 +7,7 @@ ghost use mathlib.Core.Path.{_≡_};
 ghost use Rattle.transient.specs.Store.{store};
 ghost use Rattle.transient.specs.Layout.{placeSlot, Notes};
 ghost use Rattle.epochs.specs.Advance.{advanceCheck, advance};
-ghost use Rattle.epochs.specs.Code.{Going};
+ghost use Rattle.epochs.specs.Code.{Going, replyOf};
 ghost use Rattle.epochs.specs.Entry.{phaseUnderway, heldOpen, Whole};
 ghost use Rattle.epochs.specs.Calls.{advanced, noteStep, advanceAt};
 
@@ -45,6 +45,16 @@ fn check(transient: &[u32], n: usize, t: usize, c: u32) -> Check
     Check::Accepted
 }
 
+fn reply_of(ticked: bool) -> Advance
+    ensures { λ r. ⌜ r ≡ replyOf ticked ⌝ }
+{
+    if ticked {
+        Advance::Ticked
+    } else {
+        Advance::WentOn
+    }
+}
+
 // A step from the place that the notes have, which the notes then keep.
 fn note_step(
     working: &mut [u32],
@@ -62,9 +72,9 @@ fn note_step(
         phase: transient::notes::place_phase(transient),
         slot: transient::notes::place_slot(transient),
     };
-    let z = crate::step::step(working, persistent, transient, n, w, t, c, place);
+    let z = crate::lent::step_from(working, persistent, transient, n, w, t, c, place);
     transient::notes::set_place(transient, z.place.phase, image::shape::narrow(z.place.slot));
-    z.reply
+    reply_of(z.ticked)
 }
 
 fn advance_at(

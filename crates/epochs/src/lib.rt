@@ -3,6 +3,7 @@ use reply::Refusal;
 
 pub mod advancing;
 pub mod due;
+pub mod lent;
 pub mod lines;
 pub mod open;
 pub mod step;

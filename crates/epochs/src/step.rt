@@ -1,15 +1,14 @@
 // One step of an advance: the next line is stored. The place goes through it by value.
-use crate::Advance;
 use crate::Place;
 use search::Found;
 ghost use mathlib.Core.Path.{_≡_};
 ghost use Prim.Native.Nat.{_<_};
 ghost use Rattle.epochs.specs.Advance.{stepped, passing, reclaimed, ticking, flushFrom, reclaimFrom, step};
-ghost use Rattle.epochs.specs.Code.{Advancing, Going, headed};
+ghost use Rattle.epochs.specs.Code.{Advancing, Going, headed, replyOf};
 
-// What a step answers, and the place that comes after it.
+// Whether a step ticked, and the place that comes after it.
 pub struct Moved {
-    pub reply: Advance,
+    pub ticked: bool,
     pub place: Place,
 }
 
@@ -40,13 +39,13 @@ fn reclaim(
     s: usize,
 ) -> Moved
     requires { ⌜ Going (now working) (now persistent) (now transient) n w t c s ⌝ }
-    ensures { λ r. ⌜ stepped (r .reply) (now (working .exit)) (now (persistent .exit)) (now (transient .exit)) (r .place) ≡ reclaimed (now (working .entry)) (now (persistent .entry)) (now (transient .entry)) n t s ⌝ }
+    ensures { λ r. ⌜ stepped (replyOf (r .ticked)) (now (working .exit)) (now (persistent .exit)) (now (transient .exit)) (r .place) ≡ reclaimed (now (working .entry)) (now (persistent .entry)) (now (transient .entry)) n t s ⌝ }
 {
     crate::lines::free_both(working, persistent, n, w, s);
     transient::notes::set_retired(transient, n, t, s, 0);
     let place = passing(n, s, Place::RECLAIM, Place::CONTENTS);
     Moved {
-        reply: Advance::WentOn,
+        ticked: false,
         place,
     }
 }
@@ -62,7 +61,7 @@ fn tick(
     c: u32,
 ) -> Moved
     requires { ⌜ Advancing (now working) (now persistent) (now transient) n w t c ⌝ }
-    ensures { λ r. ⌜ stepped (r .reply) (now (working .exit)) (now (persistent .exit)) (now (transient .exit)) (r .place) ≡ ticking (now (working .entry)) (now (persistent .entry)) (now (transient .entry)) n t c ⌝ }
+    ensures { λ r. ⌜ stepped (replyOf (r .ticked)) (now (working .exit)) (now (persistent .exit)) (now (transient .exit)) (r .place) ≡ ticking (now (working .entry)) (now (persistent .entry)) (now (transient .entry)) n t c ⌝ }
 {
     image::shape::set_clock(working, c + 1);
     image::shape::set_clock(persistent, c + 1);
@@ -72,7 +71,7 @@ fn tick(
         slot: 0,
     };
     Moved {
-        reply: Advance::Ticked,
+        ticked: true,
         place,
     }
 }
@@ -89,7 +88,7 @@ fn flush_from(
     p: usize,
 ) -> Moved
     requires { ⌜ Going (now working) (now persistent) (now transient) n w t c p ⌝ }
-    ensures { λ r. ⌜ stepped (r .reply) (now (working .exit)) (now (persistent .exit)) (now (transient .exit)) (r .place) ≡ flushFrom (now (working .entry)) (now (persistent .entry)) (now (transient .entry)) n w t c p ⌝ }
+    ensures { λ r. ⌜ stepped (replyOf (r .ticked)) (now (working .exit)) (now (persistent .exit)) (now (transient .exit)) (r .place) ≡ flushFrom (now (working .entry)) (now (persistent .entry)) (now (transient .entry)) n w t c p ⌝ }
 {
     match crate::due::waiting_from(transient, n, t, c, p) {
         Found::At(s) => {
@@ -99,7 +98,7 @@ fn flush_from(
                 slot: s,
             };
             Moved {
-                reply: Advance::WentOn,
+                ticked: false,
                 place,
             }
         }
@@ -119,7 +118,7 @@ fn reclaim_from(
     p: usize,
 ) -> Moved
     requires { ⌜ Going (now working) (now persistent) (now transient) n w t c p ⌝ }
-    ensures { λ r. ⌜ stepped (r .reply) (now (working .exit)) (now (persistent .exit)) (now (transient .exit)) (r .place) ≡ reclaimFrom (now (working .entry)) (now (persistent .entry)) (now (transient .entry)) n w t c p ⌝ }
+    ensures { λ r. ⌜ stepped (replyOf (r .ticked)) (now (working .exit)) (now (persistent .exit)) (now (transient .exit)) (r .place) ≡ reclaimFrom (now (working .entry)) (now (persistent .entry)) (now (transient .entry)) n w t c p ⌝ }
 {
     match crate::due::due_from(working, transient, n, w, t, c, p) {
         Found::At(s) => reclaim(working, persistent, transient, n, w, t, c, s),
@@ -139,12 +138,12 @@ fn flush_header(
     s: usize,
 ) -> Moved
     requires { ⌜ Going (now working) (now persistent) (now transient) n w t c s ⌝ }
-    ensures { λ r. ⌜ stepped (r .reply) (now (working .exit)) (now (persistent .exit)) (now (transient .exit)) (r .place) ≡ headed (now (working .entry)) (now (persistent .entry)) (now (transient .entry)) n s ⌝ }
+    ensures { λ r. ⌜ stepped (replyOf (r .ticked)) (now (working .exit)) (now (persistent .exit)) (now (transient .exit)) (r .place) ≡ headed (now (working .entry)) (now (persistent .entry)) (now (transient .entry)) n s ⌝ }
 {
     crate::lines::write_header(working, persistent, n, w, s);
     let place = passing(n, s, Place::CONTENTS, Place::CLOCK);
     Moved {
-        reply: Advance::WentOn,
+        ticked: false,
         place,
     }
 }
@@ -161,7 +160,7 @@ pub fn step(
     place: Place,
 ) -> Moved
     requires { ⌜ Going (now working) (now persistent) (now transient) n w t c (place .slot) ⌝ }
-    ensures { λ r. ⌜ stepped (r .reply) (now (working .exit)) (now (persistent .exit)) (now (transient .exit)) (r .place) ≡ step (now (working .entry)) (now (persistent .entry)) (now (transient .entry)) n w t c place ⌝ }
+    ensures { λ r. ⌜ stepped (replyOf (r .ticked)) (now (working .exit)) (now (persistent .exit)) (now (transient .exit)) (r .place) ≡ step (now (working .entry)) (now (persistent .entry)) (now (transient .entry)) n w t c place ⌝ }
 {
     let at = place.slot;
     let phase = place.phase;

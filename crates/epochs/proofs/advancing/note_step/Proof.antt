@@ -13,6 +13,7 @@ note-step-spec =
     (λ c κs. search (needs, placing))
     (λ c κs. search (needs, placing))
     (λ c κs. search (needs, placing))
+    (λ c κs. search (needs, placing))
     (λ c. search (needs, placing))
     (λ c. search (needs, placing))
     (λ c. search (needs, placing))

@@ -2,7 +2,6 @@
 use mathlib.Core.Logic.{⊎-elim}
 use borrow.Author.Needs.{needs}
 use Rattle.epochs.specs.Calls.{budget, Syncing, syncs}
-use Prim.Native.Nat.{_-_}
 use Rattle.epochs.proofs.syncing.sync_lines.Statement.{statement}
 use Rattle.epochs.proofs.syncing.sync_lines.Tie as tie
 
