@@ -34,8 +34,8 @@
  *   board_sync     makes these calls until the clock has gone up twice: all that ended before it is
  *                  safe when it returns.
  *
- * What to flush. Only the calls on the persistent image store into it: board_format, board_recover,
- * board_advance, board_sync and board_write_back. Lines must become durable in the order in which
+ * What to flush. These calls store into persistent: board_format, board_recover, board_advance,
+ * board_sync and board_write_back; no other does. Lines must become durable in the order in which
  * they were stored: after each board_advance that is not refused flush what it stored before the next
  * call that stores, and so after each step of recovery. A call stores one line:
  *
