@@ -1,63 +1,80 @@
-# make demo   shows the store's read side at work
-# make test   the whole gate: proofs from nothing, must-fail edits, tests from outside
-# make lib    the static library for C, target/staticlib/libboard.a
-# make clean  removes what was built
+# make            the static library for C, through its proof: target/staticlib/libboard.a
+# make test       the whole gate: proofs from nothing, must-fail edits, tests from outside
+# make demo       two days at the desk with a power cut each; CUTS=all tries every store, SEED=n repeats a run
+# make bench      the library against the same rules in C, SQLite and LMDB: tables and a plot in target/bench
+# make install    library, header, pkg-config file and lister below PREFIX (/usr/local), behind DESTDIR
+# make uninstall  takes them away again
+# make clean      removes what was built
 SHELL := /bin/bash
 .SHELLFLAGS := -o pipefail -c
 
-example := crates/lister/stdin
+VERSION := 0.1.0
+PREFIX ?= /usr/local
+DESTDIR ?=
+CC = gcc
+CFLAGS = -O2 -Wall -Wextra -Werror
+CUTS ?= one
+SEED ?=
+
+library := target/staticlib/libboard.a
 lister := target/bin/lister
-made := target/demo
+# The files of a crate and of all that it stands on.
+sources = crates.txt $(shell find $(addprefix crates/,$(1) $(shell sed -n 's/^$(1): *//p' crates.txt)) \
+	\( -name '*.rt' -o -name '*.antt' \) 2> /dev/null)
 
-# Words of an image from byte $(2) on, $(3) bytes long, on one line behind a heading.
-row = @printf '  %-24s%s\n' '$(4)' "$$(echo $$(od -An -v -t u4 --endian=little -j $(2) -N $(3) $(1)))"
+.PHONY: lib test demo bench bench-docs install uninstall clean
+.DELETE_ON_ERROR:
 
-# An image of two slots with two words of contents each.
-define show
-$(call row,$(1),0,12,slots width clock)
-$(call row,$(1),12,12,slot 0 kind epoch uid)
-$(call row,$(1),24,12,slot 1 kind epoch uid)
-$(call row,$(1),36,8,slot 0 key value)
-$(call row,$(1),44,8,slot 1 key value)
-@echo 'The lister prints:'
-@$(lister) < $(1) | sed 's/^/  /'
-endef
+lib: $(library)
 
-# A copy $(1) of the example in which the byte at $(2) is $(3), in octal.
-define patched
-@cp $(example) $(1) && printf '\$(3)' | dd of=$(1) bs=1 seek=$(2) conv=notrunc status=none
-endef
+$(library): $(call sources,board)
+	@echo 'Proving what the library stands on (some minutes from nothing; what has not changed is not proved again).'
+	@tools/prove check $$(sed -n 's/^board: *//p' crates.txt)
+	@echo 'Proving and compiling the exported calls (about 1 minute).'
+	@tools/prove staticlib board > target/staticlib.log || { cat target/staticlib.log; exit 1; }
+	@touch $@
+	@echo 'Built $@; its C view is include/board.h.'
 
-.PHONY: demo test lib clean needs-rt
-
-demo: needs-rt
-	@mkdir -p $(made)
-	@echo 'Proving and compiling the image lister and what it stands on (about 2 minutes from nothing).'
-	@rt check lister 2>&1 | tee $(made)/proof.log | grep --line-buffered '^rt:' || { tail -n 20 $(made)/proof.log; exit 1; }
-	@echo
-	@echo 'An image with one job, key 10, in two versions. The clock is 7.'
-	$(call show,$(example))
-	@echo 'A version survives a power cut if its epoch is at least two below the clock.'
-	@echo 'Epoch 5 is, epoch 6 is not yet: the job comes back with its old value, 100.'
-	@echo
-	@echo 'The same image one epoch later: only the clock differs, it is 8.'
-	$(call patched,$(made)/later.image,8,010)
-	$(call show,$(made)/later.image)
-	@echo 'Now epoch 6 is old enough and newer than epoch 5: the UPDATE survives, with value 200.'
-	@echo
-	@echo 'The first image damaged: the kind of slot 1 is 4, and there is no such kind.'
-	$(call patched,$(made)/damaged.image,24,004)
-	$(call show,$(made)/damaged.image)
-	@echo 'Refusal 3 is a bad slot. Nothing of a damaged image is listed.'
+$(lister): $(call sources,lister)
+	@echo 'Proving and compiling the image lister and what it stands on.'
+	@tools/prove check lister
+	@touch $@
 
 test:
 	@.ci/run
 
-lib: needs-rt
-	@rt staticlib board
+target/demo/demo: demo/demo.c demo/early.c bench/rules.c bench/rules.h include/board.h $(library)
+	@tools/need gcc=gcc stdio.h=libc6-dev
+	@mkdir -p $(@D)
+	@$(CC) $(CFLAGS) -I include demo/demo.c demo/early.c $(library) -o $@
+
+demo: target/demo/demo
+	@$< --cuts $(CUTS) $(if $(SEED),--seed $(SEED))
+
+target/bench/%: bench/%.c bench/rules.c bench/rules.h include/board.h $(library)
+	@tools/need gcc=gcc stdio.h=libc6-dev
+	@tools/need sqlite3.h=libsqlite3-dev lmdb.h=liblmdb-dev valgrind=valgrind valgrind/callgrind.h=valgrind
+	@mkdir -p $(@D)
+	@$(CC) $(CFLAGS) -D_GNU_SOURCE -I include $< bench/rules.c $(library) -lsqlite3 -llmdb -o $@
+
+bench: target/bench/bench target/bench/durable
+	@bench/run target/bench
+
+# The tables and the plot of the last run become those of docs/BENCHMARKS.md.
+bench-docs:
+	@bench/report target/bench --docs
+
+install: $(library) $(lister)
+	@mkdir -p target
+	@sed -e 's|@PREFIX@|$(PREFIX)|' -e 's|@VERSION@|$(VERSION)|' board.pc.in > target/board.pc
+	install -D -m 644 $(library) $(DESTDIR)$(PREFIX)/lib/libboard.a
+	install -D -m 644 include/board.h $(DESTDIR)$(PREFIX)/include/board.h
+	install -D -m 644 target/board.pc $(DESTDIR)$(PREFIX)/lib/pkgconfig/board.pc
+	install -D -m 755 $(lister) $(DESTDIR)$(PREFIX)/bin/lister
+
+uninstall:
+	rm -f $(DESTDIR)$(PREFIX)/lib/libboard.a $(DESTDIR)$(PREFIX)/include/board.h
+	rm -f $(DESTDIR)$(PREFIX)/lib/pkgconfig/board.pc $(DESTDIR)$(PREFIX)/bin/lister
 
 clean:
 	rm -rf target
-
-needs-rt:
-	@command -v rt > /dev/null || { echo "the Rattle toolchain's command rt is not on the PATH"; exit 1; }

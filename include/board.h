@@ -1,64 +1,49 @@
-/* The epoch-kept board: a crash-safe store of courier jobs in lent memory.
+/* The epoch-kept board: a crash-safe store of courier jobs in memory that you lend it.
  *
- * A store is three blocks of 32-bit words that you own:
+ * THE STORE is three blocks of 32-bit words that you own:
  *
- *   working     the image that calls change;
+ *   working     the image that calls read and change; ordinary memory;
  *   persistent  the image that survives a power cut, of the same layout and length;
- *   transient   the store's notes, lost at a power cut.
+ *   transient   the store's notes; ordinary memory.
  *
  * An image of N slots (2 to 1,024) with W words of contents each (2 to 9) has 3 + 3N + WN words:
  * N, W, the clock, then N headers (kind, epoch, uid), then N contents (key, W - 1 value words).
- * A line is one slot's header, one slot's contents, or the clock word. The memory under persistent
- * must take a line whole or not at all.
- * The notes of T threads (1 to 16) have 4 + T + 3N words.
+ * The notes of T threads (1 to 16) have 4 + T + 3N words. board_image_words and
+ * board_transient_words work these out.
+ *
+ * A JOB is a key other than 0 and a value of W - 1 words. Jobs are changed within an operation:
+ * begin, then any new, set and delete, then end. The clock counts epochs, and an operation belongs
+ * to the epoch in which it began. board_advance and board_sync move the clock. A power cut at clock c
+ * keeps every operation of an epoch up to c - 2, whole, and nothing of any later one; so an
+ * operation is safe once the clock has ticked twice since it began.
+ *
+ * WHO MAY CALL WHEN. Calls on one store are made one after another: with several threads of the
+ * machine, hold a lock of your own around each call. "Thread" below is a number from 0 to T - 1 that
+ * holds one open operation; operations of different threads may interleave freely. Calls on
+ * different stores need no lock. From a power cut until board_recover answers BOARD_DONE nothing but
+ * board_recover is called; between calls nobody else writes into the three blocks.
+ *
+ * WHAT HAS TO BE FLUSHED BEFORE WHAT. Only format, advance, sync, write_back and recover store into
+ * persistent. A line is one slot's header, one slot's contents, or the clock word; the memory under
+ * persistent must take a line whole or not at all, and lines must become durable in the order in
+ * which they are stored. Two ways to have that:
+ *
+ *   - the machine does it (the caches are in the power-fail domain, or persistent is battery-backed
+ *     memory): nothing to flush, use board_sync;
+ *   - you do it: use board_advance, which stores one line a call, and flush persistent before the
+ *     next call that stores into it. board_sync stores many lines in one call: do not use it then.
+ *
+ * Which line a call stored: an advance that goes on, one slot's contents or header; one that ticks,
+ * the clock, word 2; a recover that goes on, one slot's header. A host that does not look flushes the
+ * image. Begin, end, new, set, delete and read store nothing there, and are followed by no flush.
+ *
+ * AFTER A POWER CUT working and transient are lost and may hold anything. Map persistent again,
+ * allocate the other two with the same sizes, and call board_recover until it answers BOARD_DONE.
  *
  * Every length below is in words, except that of an image's bytes. A call accepts any lengths and
  * any words: it refuses what is not a store, and a refusal changes nothing. The pointers must be
- * valid for their lengths, and the three blocks must not overlap. A call keeps no pointer,
- * allocates nothing and always returns. Calls on one store are made one after another.
- *
- * How a host uses a store
- *
- * The first time: board_format, then flush the whole persistent image. After a power cut, or to open
- * a store that is there: board_recover until it is done (see there). Nothing else may be called
- * between a power cut and that "done", and the sizes must be those the store was made with.
- *
- * A change is made by an operation: begin, then any new, set and delete, then end. All of an
- * operation belongs to the epoch in which it began, and a power cut keeps all of an epoch or nothing:
- * with clock c it keeps the operations of epochs up to c - 2. So an operation is safe when the clock
- * has gone up twice since it began. Two ways lead there:
- *
- *   board_advance  one call stores one line. Call it now and then, as from a timer; a few lines each
- *                  time keep the calls on jobs short. The clock goes up with the call that says
- *                  BOARD_TICKED. Other calls may come between.
- *   board_sync     makes these calls until the clock has gone up twice: all that ended before it is
- *                  safe when it returns.
- *
- * What to flush. Only the calls on the persistent image store into it: board_format, board_recover,
- * board_advance, board_sync and board_write_back. Lines must become durable in the order in which
- * they were stored: after each board_advance that is not refused flush what it stored before the next
- * call that stores, and so after each step of recovery. A call stores one line:
- *
- *   advance, went on   one slot's header in both images, or one slot's contents or header in persistent
- *   advance, ticked    the clock, word 2
- *   recover, went on   one slot's header
- *
- * A host that does not look which line it was flushes the image. board_sync stores many lines and
- * returns once: where the memory makes stores durable in their order by itself (as with a flush on
- * failure) that is enough; else call board_advance yourself, with a flush after each, until two calls
- * have ticked. The memory may write lines of the working image back to persistent by itself at any
- * moment outside a call; board_write_back stands for that, and a host whose memory does not has no
- * use for it.
- *
- * Threads. The T threads are names for operations, not for the threads of your program: any thread
- * of your program may make any call, as long as the calls on one store come one after another, each
- * seeing what the one before left (one lock around them is enough). Two stores have nothing to do
- * with each other. board_read gives a place in working: use the words before the next call that
- * changes the store. board_clock and board_survivors look at bytes alone and may be asked of a copy
- * at any time.
- *
- * An advance that begins waits for no one: where an operation is still open in the epoch before the
- * clock's it says BOARD_STILL_OPEN. End that operation, or go on with other calls, and try again.
+ * valid for their lengths, and the blocks must not overlap. A call keeps no pointer, allocates
+ * nothing and always returns.
  */
 #ifndef BOARD_H
 #define BOARD_H
@@ -70,7 +55,8 @@
 extern "C" {
 #endif
 
-/* Why a call declines. A call that declines for several reasons gives the lowest number. */
+/* Why a call declines. A call that declines for several reasons gives the lowest number. Any call on
+ * a store but format can give BOARD_SIZES and BOARD_CLOCK; the others are named at the calls. */
 enum board_refusal {
     BOARD_SIZES = 1,         /* N, W or T out of range, a length that does not fit them, or notes that
                                 name no slot */
@@ -82,7 +68,8 @@ enum board_refusal {
     BOARD_ALREADY_OPEN = 6,  /* the thread has an operation open */
     BOARD_NOT_OPEN = 7,      /* the thread has no operation open */
     BOARD_BAD_ARGUMENT = 8,  /* key 0, or a value that is not W - 1 words long */
-    BOARD_NEWER = 9,         /* an operation of a later epoch has changed this key */
+    BOARD_NEWER = 9,         /* an operation of a later epoch has changed this key: end, begin again, and
+                                repeat the call in the new operation */
     BOARD_NO_JOB = 10,       /* no live job of that key */
     BOARD_JOB_EXISTS = 11,   /* a live job of that key */
     BOARD_NO_UID = 12,       /* no uid is left to give */
@@ -95,6 +82,33 @@ enum board_refusal {
 
 /* A 64-bit answer of BOARD_REFUSED or more is a refusal: BOARD_REFUSED plus its number. */
 #define BOARD_REFUSED UINT64_C(4294967296)
+
+/* A refusal in English. It takes a call's answer as it is, 32 or 64 bits wide. */
+static inline const char *board_refusal_text(uint64_t answer)
+{
+    switch (answer >= BOARD_REFUSED ? answer - BOARD_REFUSED : answer) {
+    case 0: return "accepted";
+    case BOARD_SIZES: return "the sizes are out of range or do not fit the lengths";
+    case BOARD_CLOCK: return "the clock is out of range, or clocks and open operations do not agree";
+    case BOARD_BAD_SLOT: return "a slot of the image is damaged";
+    case BOARD_DUPLICATE: return "a job stands twice in the image";
+    case BOARD_NO_THREAD: return "there is no thread of that number";
+    case BOARD_ALREADY_OPEN: return "the thread has an operation open";
+    case BOARD_NOT_OPEN: return "the thread has no operation open";
+    case BOARD_BAD_ARGUMENT: return "the key is 0 or the value has the wrong length";
+    case BOARD_NEWER: return "a later epoch has changed this job";
+    case BOARD_NO_JOB: return "there is no job of that key";
+    case BOARD_JOB_EXISTS: return "there is a job of that key already";
+    case BOARD_NO_UID: return "no uid is left for a new job";
+    case BOARD_FULL: return "the board is full";
+    case BOARD_STILL_OPEN: return "an operation is still open";
+    case BOARD_LAST_EPOCH: return "the clock has reached its end";
+    case BOARD_NO_LINE: return "there is no such line";
+    default: return "no refusal has this number";
+    }
+}
+
+/* ---- Making a store ---- */
 
 /* The words to allocate for an image of N slots of W words of contents, and for the notes of T
  * threads; 0 where a size is out of range. */
@@ -109,31 +123,40 @@ uint32_t board_format(uint32_t *working, size_t working_words,
                       uint32_t *transient, size_t transient_words,
                       uint32_t slots, uint32_t words);
 
-/* Each call from here to board_delete answers 0 for accepted, else the number of its refusal. It stores
- * nothing into the persistent image, so there is nothing to flush.
- *
- * Begin opens an operation of the thread in the clock's epoch, end closes it. New, set and delete
- * belong to the open operation of their thread: new makes a job, set gives a live job another value,
- * delete ends it. A value has W - 1 words. New and set need two free slots when they take one, delete
- * needs one, so that a full board can still be emptied. */
+/* ---- Calls on jobs. 0 for accepted, else the number of the refusal ---- */
+
+/* Opens an operation of the thread in the clock's epoch.
+ * Refusals: BOARD_NO_THREAD, BOARD_ALREADY_OPEN. */
 uint32_t board_begin(const uint32_t *working, size_t working_words,
                      const uint32_t *persistent, size_t persistent_words,
                      uint32_t *transient, size_t transient_words, uint32_t thread);
 
+/* Closes it. Keep operations short: one left open in the epoch before the clock's holds the clock.
+ * Refusals: BOARD_NO_THREAD, BOARD_NOT_OPEN. */
 uint32_t board_end(const uint32_t *working, size_t working_words,
                    const uint32_t *persistent, size_t persistent_words,
                    uint32_t *transient, size_t transient_words, uint32_t thread);
 
+/* Makes a job. It needs two free slots, so that a full board can still be emptied. value_words is
+ * W - 1.
+ * Refusals: BOARD_NO_THREAD, BOARD_NOT_OPEN, BOARD_BAD_ARGUMENT, BOARD_NEWER, BOARD_JOB_EXISTS,
+ * BOARD_NO_UID, BOARD_FULL. */
 uint32_t board_new(uint32_t *working, size_t working_words,
                    const uint32_t *persistent, size_t persistent_words,
                    uint32_t *transient, size_t transient_words,
                    uint32_t thread, uint32_t key, const uint32_t *value, size_t value_words);
 
+/* Gives a live job another value. A job last changed in an earlier epoch takes a new slot, and then
+ * two must be free; the old one becomes free again a few epochs later.
+ * Refusals: BOARD_NO_THREAD, BOARD_NOT_OPEN, BOARD_BAD_ARGUMENT, BOARD_NEWER, BOARD_NO_JOB, BOARD_FULL. */
 uint32_t board_set(uint32_t *working, size_t working_words,
                    const uint32_t *persistent, size_t persistent_words,
                    uint32_t *transient, size_t transient_words,
                    uint32_t thread, uint32_t key, const uint32_t *value, size_t value_words);
 
+/* Ends a live job. For one last changed in an earlier epoch it needs one free slot.
+ * Refusals: BOARD_NO_THREAD, BOARD_NOT_OPEN, BOARD_BAD_ARGUMENT (key 0), BOARD_NEWER, BOARD_NO_JOB,
+ * BOARD_FULL. */
 uint32_t board_delete(uint32_t *working, size_t working_words,
                       const uint32_t *persistent, size_t persistent_words,
                       uint32_t *transient, size_t transient_words,
@@ -146,7 +169,9 @@ uint32_t board_delete(uint32_t *working, size_t working_words,
  *     uint64_t at = board_read(w, wn, p, pn, t, tn, thread, key);
  *     if (at < BOARD_REFUSED)
  *         use(w + at, words - 1);
- */
+ *
+ * Refusals: BOARD_NO_THREAD, BOARD_BAD_ARGUMENT (key 0), BOARD_NEWER (only with an operation open),
+ * BOARD_NO_JOB. */
 uint64_t board_read(const uint32_t *working, size_t working_words,
                     const uint32_t *persistent, size_t persistent_words,
                     const uint32_t *transient, size_t transient_words,
@@ -157,6 +182,45 @@ uint32_t board_read_refusal(const uint32_t *working, size_t working_words,
                             const uint32_t *persistent, size_t persistent_words,
                             const uint32_t *transient, size_t transient_words,
                             uint32_t thread, uint32_t key);
+
+/* ---- Moving the clock ---- */
+
+/* What one advance call did. */
+enum board_step {
+    BOARD_STORED = 0, /* it stored one line of persistent; the advance is not over */
+    BOARD_TICKED = 1  /* the line was the clock, which is one higher now: this advance is over */
+};
+
+/* One step of an advance: it stores exactly one line of persistent, from the place that the last one
+ * reached. It frees, one by one, the slots that nothing needs any more; then stores the contents and
+ * the header of each slot changed in the epoch before the clock's; then raises the clock in both
+ * images. Between the steps any other call may be made. Call it from a timer, a few lines or a tick
+ * at a time. It answers BOARD_STORED, BOARD_TICKED, or BOARD_REFUSED plus the refusal.
+ * Refusals: BOARD_STILL_OPEN (at the start of an advance: an operation is open in the epoch before
+ * the clock's), BOARD_LAST_EPOCH. */
+uint64_t board_advance(uint32_t *working, size_t working_words,
+                       uint32_t *persistent, size_t persistent_words,
+                       uint32_t *transient, size_t transient_words);
+
+/* Advance calls until two have ticked (one underway counts): every operation ended before is now safe
+ * from a power cut. It answers the number of lines stored, two where nothing had changed and
+ * 2 (3N + 1) at most, or BOARD_REFUSED plus the refusal. Only for memory that makes lines durable in
+ * their order by itself (see above).
+ * Refusals: BOARD_STILL_OPEN (any operation is open), BOARD_LAST_EPOCH. */
+uint64_t board_sync(uint32_t *working, size_t working_words,
+                    uint32_t *persistent, size_t persistent_words,
+                    uint32_t *transient, size_t transient_words);
+
+/* Copies one line of a slot from working to persistent: its contents (line 0) or its header (line 1).
+ * No server needs it. It stands for what a cache does by itself at any moment, and is harmless
+ * between any two calls; tests use it to show that. It answers 0 or the refusal.
+ * Refusals: BOARD_NO_LINE. */
+uint32_t board_write_back(const uint32_t *working, size_t working_words,
+                          uint32_t *persistent, size_t persistent_words,
+                          const uint32_t *transient, size_t transient_words,
+                          uint32_t slot, uint32_t line);
+
+/* ---- After a power cut ---- */
 
 /* What one recover call did. */
 enum board_recovery {
@@ -175,43 +239,14 @@ enum board_recovery {
  *     while ((r = board_recover(w, wn, p, pn, t, tn)) == BOARD_WENT_ON)
  *         flush(p);
  *     if (r >= BOARD_REFUSED)
- *         complain((enum board_refusal)(r - BOARD_REFUSED));
+ *         complain(board_refusal_text(r));
  *
  * Refusals: BOARD_SIZES, BOARD_CLOCK, BOARD_BAD_SLOT, BOARD_DUPLICATE. */
 uint64_t board_recover(uint32_t *working, size_t working_words,
                        uint32_t *persistent, size_t persistent_words,
                        uint32_t *transient, size_t transient_words);
 
-/* What one advance call did. */
-enum board_step {
-    BOARD_STORED = 0, /* it stored one line: call again when you like */
-    BOARD_TICKED = 1  /* the line was the clock: what was made two epochs ago is safe now */
-};
-
-/* One step of an advance: stores one line, from the place that the last one reached. It frees, one by
- * one, the slots that nothing needs any more; then stores the contents and the header of each slot
- * that was changed in the epoch before the clock's; then raises the clock in both images. Flush the
- * line before the next call that stores into persistent.
- *
- * Refusals: BOARD_SIZES, BOARD_CLOCK, BOARD_STILL_OPEN, BOARD_LAST_EPOCH, each plus BOARD_REFUSED. */
-uint64_t board_advance(uint32_t *working, size_t working_words,
-                       uint32_t *persistent, size_t persistent_words,
-                       uint32_t *transient, size_t transient_words);
-
-/* Advance calls until two of them have ticked; an advance underway counts as one. It answers how many
- * lines these stored: two where nothing had changed, 2 (3N + 1) at most. All that ended before is safe
- * then. No operation may be open. Refusals as for board_advance. */
-uint64_t board_sync(uint32_t *working, size_t working_words,
-                    uint32_t *persistent, size_t persistent_words,
-                    uint32_t *transient, size_t transient_words);
-
-/* Copies one line of a slot from working to persistent: its contents (line 0) or its header (line 1).
- * This is what memory may do by itself; it never harms what recovery gives. It answers 0, or
- * BOARD_SIZES, BOARD_CLOCK or BOARD_NO_LINE. */
-uint32_t board_write_back(const uint32_t *working, size_t working_words,
-                          uint32_t *persistent, size_t persistent_words,
-                          const uint32_t *transient, size_t transient_words,
-                          uint32_t slot, uint32_t line);
+/* ---- Questions to an image ---- */
 
 /* The clock of an image, given as bytes: four to a word, lowest first. Nothing is changed, and the
  * image need not be aligned. Refusals as for board_recover, judged on the image alone. */

@@ -12,8 +12,9 @@ enum { SLOTS = 3, WORDS = 4, THREADS = 2, VALUE_WORDS = WORDS - 1 };
 
 _Static_assert(BOARD_NO_THREAD == 5 && BOARD_ALREADY_OPEN == 6 && BOARD_NOT_OPEN == 7 && BOARD_BAD_ARGUMENT == 8 &&
                    BOARD_NEWER == 9 && BOARD_NO_JOB == 10 && BOARD_JOB_EXISTS == 11 && BOARD_NO_UID == 12 &&
-                   BOARD_FULL == 13,
+                   BOARD_FULL == 13 && BOARD_STILL_OPEN == 14 && BOARD_LAST_EPOCH == 15 && BOARD_NO_LINE == 16,
                "the header's refusals");
+_Static_assert(BOARD_STORED == 0 && BOARD_TICKED == 1, "the header's replies");
 
 static size_t calls, failed;
 
@@ -36,8 +37,22 @@ static uint32_t *block(size_t words)
     return start;
 }
 
+/* Every refusal has a text of its own, whichever way it is answered. */
+static void texts(void)
+{
+    for (uint32_t one = 0; one <= BOARD_NO_LINE; one++) {
+        const char *text = board_refusal_text(one);
+        same("an empty text", text[0] == 0, 0);
+        for (uint32_t other = 0; other < one; other++)
+            same("a text given twice", strcmp(text, board_refusal_text(other)) == 0, 0);
+        if (one > 0)
+            same("the text of a wide answer", (uint64_t)strcmp(text, board_refusal_text(BOARD_REFUSED + one)), 0);
+    }
+}
+
 int main(void)
 {
+    texts();
     const size_t n = board_image_words(SLOTS, WORDS), tn = board_transient_words(SLOTS, THREADS);
     same("the length of an image", n, 3 + 3 * SLOTS + WORDS * SLOTS);
     same("the length of the notes", tn, 4 + THREADS + 3 * SLOTS);
@@ -77,6 +92,18 @@ int main(void)
     same("end", board_end(w, n, p, n, t, tn, 0), 0);
     same("end again", board_end(w, n, p, n, t, tn, 0), BOARD_NOT_OPEN);
     same("the persistent image", (uint64_t)memcmp(p, fresh, n * sizeof *p), 0);
+
+    same("a line of no slot", board_write_back(w, n, p, n, t, tn, SLOTS, 0), BOARD_NO_LINE);
+    same("sync of one job made and one made and deleted", board_sync(w, n, p, n, t, tn), 6);
+    same("the clock", board_clock((const uint8_t *)p, n * sizeof *p), 4);
+    same("the survivors", board_survivors((const uint8_t *)p, n * sizeof *p), 1);
+    same("advance", board_advance(w, n, p, n, t, tn), BOARD_TICKED);
+    same("recover", board_recover(w, n, p, n, t, tn), BOARD_DONE);
+    at = board_read(w, n, p, n, t, tn, 0, 8);
+    if (at + VALUE_WORDS <= n)
+        same("the value recovered", (uint64_t)memcmp(w + at, second, sizeof second), 0);
+    else
+        same("where the value recovered stands", at, 0);
 
     free(fresh);
     free(w);

@@ -13,8 +13,8 @@ use Rattle.reply.specs.declared.Refusal.the-variants.{Sizes, Clock, BadSlot, Du
 use Rattle.image.specs.declared.header.Header.{Header}
 use Rattle.image.specs.Layout.{filledKind, header, clockOf, keyAt, shapeOk, clockOk}
 use Rattle.image.specs.Code.{shaped}
-use Rattle.survival.specs.Survivors.{kept}
-use Rattle.survival.specs.Code.{SlotMarked, flag-is}
+use Rattle.survival.specs.Survivors.{kept, survivor}
+use Rattle.survival.specs.Code.{SlotMarked, flag-is, and-no}
 use Rattle.acceptance.specs.Accept.{blankHeader, filledHeader, proper, allProper, nameless, someNameless, sameVersion, versionBelow, versionTwice, survivesAs, keyBelow, keyTwice, headCheck, slotsCheck}
 
 -- ---- headers that are proper
@@ -67,6 +67,10 @@ unfolding allProper
 all-proper l n e h = rw (← e) h
 
 -- ---- survivors by key
+and-yes : (a : Bool) → a ≡ a && true
+and-yes true = refl
+and-yes false = refl
+
 module _ (l : List ℕ) (n w s : ℕ) (flags : List Bool) (z : SlotMarked l n w s flags) where
   pub nameless-yes : {k : ℕ} → getD flags s false ≡ true → k ≡ keyAt l n w s → eqb k 0 ≡ nameless l n w s
   unfolding nameless
@@ -76,13 +80,13 @@ module _ (l : List ℕ) (n w s : ℕ) (flags : List Bool) (z : SlotMarked l n w 
   unfolding nameless
   nameless-no t = rw (flag-is (z .flagged) (z .slot .within) t)
 
-  pub as-yes : (key : ℕ) {k : ℕ} → getD flags s false ≡ true → k ≡ keyAt l n w s → eqb k key ≡ survivesAs l n w key s
+  pub as-yes : (key : ℕ) {k : ℕ} → k ≡ keyAt l n w s → k ≡ key → getD flags s false ≡ survivesAs l n w key s
   unfolding survivesAs
-  as-yes key t e = rw (flag-is (z .flagged) (z .slot .within) t, e)
+  as-yes key {k} e d = rw (← e, eq-eqb k key d, flag-is (z .flagged) (z .slot .within) refl) (and-yes (getD flags s false))
 
-  pub as-no : (key : ℕ) → getD flags s false ≡ false → false ≡ survivesAs l n w key s
+  pub as-no : (key : ℕ) {k : ℕ} → k ≡ keyAt l n w s → (k ≡ key → ⊥) → false ≡ survivesAs l n w key s
   unfolding survivesAs
-  as-no key t = rw (flag-is (z .flagged) (z .slot .within) t)
+  as-no key {k} e d = rw (← e, ne-eqb k key d) (and-no (survivor l n s))
 
   pub key-yes : {k : ℕ} {r : Bool} → getD flags s false ≡ true → k ≡ keyAt l n w s → r ≡ some (survivesAs l n w k) s → r ≡ keyBelow l n w s
   unfolding keyBelow
@@ -101,14 +105,14 @@ unfolding keyTwice
 key-twice l n w e = e
 
 -- ---- versions
+pub version-uid : (c : ℕ) (h : Header) (l : List ℕ) (t : ℕ) {g : Header} → g ≡ header l t → (g .uid ≡ h .uid → ⊥) → false ≡ sameVersion c h (header l t)
+unfolding sameVersion
+version-uid c h l t {g} at u = rw (← at, ne-eqb (g .uid) (h .uid) u) (and-no (kept c g))
+
 module _ (c : ℕ) (h : Header) (l : List ℕ) (t : ℕ) {g : Header} {k : Bool} (at : g ≡ header l t) (kp : k ≡ kept c g) where
   pub version-yes : k ≡ true → g .uid ≡ h .uid → eqb (g .epoch) (h .epoch) ≡ sameVersion c h (header l t)
   unfolding sameVersion
   version-yes e u = rw (← at, ← kp, e, eq-eqb (g .uid) (h .uid) u)
-
-  pub version-uid : k ≡ true → (g .uid ≡ h .uid → ⊥) → false ≡ sameVersion c h (header l t)
-  unfolding sameVersion
-  version-uid e u = rw (← at, ← kp, e, ne-eqb (g .uid) (h .uid) u)
 
   pub version-no : k ≡ false → false ≡ sameVersion c h (header l t)
   unfolding sameVersion

@@ -21,13 +21,17 @@ use Rattle.image.specs.Laws.{stored-front, length-stored}
 use Rattle.image.specs.Code.{shaped}
 use Rattle.survival.specs.Survivors.{survivorCount}
 use Rattle.acceptance.specs.Accept.{headCheck, slotsCheck, imageCheck}
-use Rattle.survival.specs.Code.{Headers, Marked, AllMarked, headers-of}
+use Rattle.survival.specs.Code.{Marked, AllMarked}
 
 unfoldable pub clockAnswer : List ℕ → ℕ
 clockAnswer l = answered (imageCheck l) (clockOf l)
 
 unfoldable pub survivorsAnswer : List ℕ → ℕ
 survivorsAnswer l = answered (imageCheck l) (survivorCount l (slotsOf l))
+
+-- the same past refusals 1 and 2
+unfoldable pub survivorsPast : List ℕ → ℕ → ℕ → ℕ
+survivorsPast l n w = answered (slotsCheck l n w) (survivorCount l n)
 
 -- "A byte count that fits no image is refused with 1": no whole words, or more than the largest image has
 unfoldable pub bytesOk : ℕ → Bool
@@ -80,22 +84,29 @@ module _ (l : List ℕ) {k : Check} (c : k ≡ imageCheck l) where
   unfolding clockAnswer
   clock-goes a e q = rw (← c, a) (q ∙ e)
 
-  pub survivors-declines : {r : Refusal} {v : ℕ} → k ≡ Refused r → v ≡ declinedNumber r → v ≡ survivorsAnswer l
-  unfolding survivorsAnswer
-  survivors-declines a e = rw (← c, a) e
-
-  pub survivors-goes : {n v : ℕ} → k ≡ Accepted → n ≡ slotsOf l → v ≡ survivorCount l n → v ≡ survivorsAnswer l
-  unfolding survivorsAnswer
-  survivors-goes a p e = rw (← c, a, ← p) e
+  pub image-head : k ≡ Accepted → 3 ≤ length l
+  image-head a = let z = image-sized l (sym c ∙ a) in omega arith
 
   pub image-long : (j : ℕ) → k ≡ Accepted → j < 3 → j < length l
   image-long j a h = let z = image-sized l (sym c ∙ a) in omega arith
 
-  pub image-head : k ≡ Accepted → 3 ≤ length l
-  image-head a = let z = image-sized l (sym c ∙ a) in omega arith
+module _ (l : List ℕ) {k : Check} (c : k ≡ headCheck l) where
+  pub survivors-declines : {r : Refusal} {v : ℕ} → k ≡ Refused r → v ≡ declinedNumber r → v ≡ survivorsAnswer l
+  unfolding survivorsAnswer imageCheck
+  survivors-declines a e = rw (← c, a) e
 
-  pub image-headers : {n : ℕ} → k ≡ Accepted → n ≡ slotsOf l → Headers l n
-  image-headers a p = rw p (headers-of (image-sized l (sym c ∙ a)))
+  pub survivors-goes : (n w : ℕ) {v : ℕ} → k ≡ Accepted → n ≡ slotsOf l → w ≡ widthOf l → v ≡ survivorsPast l n w → v ≡ survivorsAnswer l
+  unfolding survivorsAnswer imageCheck survivorsPast
+  survivors-goes n w a p q e = rw (← c, a, ← p, ← q) e
+
+module _ (l : List ℕ) (n w : ℕ) {k : Check} (c : k ≡ slotsCheck l n w) where
+  pub past-declines : {r : Refusal} {v : ℕ} → k ≡ Refused r → v ≡ declinedNumber r → v ≡ survivorsPast l n w
+  unfolding survivorsPast
+  past-declines a e = rw (← c, a) e
+
+  pub past-goes : {v : ℕ} → k ≡ Accepted → v ≡ survivorCount l n → v ≡ survivorsPast l n w
+  unfolding survivorsPast
+  past-goes a e = rw (← c, a) e
 
 -- ---- bytes that make whole words, and a buffer for the largest image
 pub record Buffered (bytes words : List ℕ) : Type 0 where
@@ -128,4 +139,4 @@ module _ (bytes words : List ℕ) {words′ : List ℕ} (z : Buffered bytes word
 
 pub ruleset decoding = (buffered, decodes, prefix-fits, prefix-long)
 
-pub ruleset asks = (check-declines, check-goes, check-long, check-sized, sized-marked, clock-declines, clock-goes, survivors-declines, survivors-goes, image-long, image-head, image-headers)
+pub ruleset asks = (check-declines, check-goes, check-long, check-sized, sized-marked, clock-declines, clock-goes, survivors-declines, survivors-goes, past-declines, past-goes, image-head)

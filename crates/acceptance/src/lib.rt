@@ -99,8 +99,8 @@ fn same_version_at(img: &[u32], n: usize, c: u32, h: Header, t: usize) -> bool
     ensures { λ r. ⌜ r ≡ sameVersion c h (header (now (img .entry)) t) ⌝ }
 {
     let g = image::header::header_at(img, n, t);
-    if survival::kept(g, c) {
-        if g.uid == h.uid {
+    if g.uid == h.uid {
+        if survival::kept(g, c) {
             g.epoch == h.epoch
         } else {
             false
@@ -155,8 +155,8 @@ fn survives_as(img: &[u32], flags: &[bool; 1024], n: usize, w: usize, key: u32, 
     requires { ⌜ SlotMarked (now img) n w t (now flags) ⌝ }
     ensures { λ r. ⌜ r ≡ survivesAs (now (img .entry)) n w key t ⌝ }
 {
-    if flags[t] {
-        image::contents::key_at(img, n, w, t) == key
+    if image::contents::key_at(img, n, w, t) == key {
+        flags[t]
     } else {
         false
     }

@@ -1,9 +1,8 @@
 // What an image answers by itself: its clock, and how many jobs survive in it.
 use reply::Check;
 ghost use mathlib.Core.Path.{_≡_};
-ghost use Rattle.survival.specs.Survivors.{survivorCount};
-ghost use Rattle.acceptance.specs.Questions.{clockAnswer, survivorsAnswer, bytesOk};
-ghost use Rattle.survival.specs.Code.{Headers};
+ghost use Rattle.image.specs.Layout.{Sized};
+ghost use Rattle.acceptance.specs.Questions.{clockAnswer, survivorsAnswer, survivorsPast, bytesOk};
 
 // Is this the byte count of whole words, no more than the largest image has?
 pub fn bytes_ok(len: usize) -> bool
@@ -24,20 +23,27 @@ pub fn clock_answer(img: &[u32]) -> u64
     }
 }
 
-// How many survive, in an image that is known to have its shape.
-pub fn survivor_count(img: &[u32], n: usize) -> usize
-    requires { ⌜ Headers (now img) n ⌝ }
-    ensures { λ r. ⌜ r ≡ survivorCount (now (img .entry)) n ⌝ }
+// How many survive, past refusals 1 and 2. The flags serve both the check and the count.
+fn survivors_sized(img: &[u32], n: usize, w: usize) -> u64
+    requires { ⌜ Sized (now img) n w ⌝ }
+    ensures { λ r. ⌜ r ≡ survivorsPast (now (img .entry)) n w ⌝ }
 {
     let flags = survival::survivors(img, n);
-    survival::count(img, &flags, n)
+    match crate::check_slots(img, &flags, n, w) {
+        Check::Refused(r) => reply::declined(r),
+        Check::Accepted => survival::count(img, &flags, n) as u64,
+    }
 }
 
 pub fn survivors_answer(img: &[u32]) -> u64
     ensures { λ r. ⌜ r ≡ survivorsAnswer (now (img .entry)) ⌝ }
 {
-    match crate::check(img) {
+    match crate::check_head(img) {
         Check::Refused(r) => reply::declined(r),
-        Check::Accepted => survivor_count(img, image::shape::wide(img[0])) as u64,
+        Check::Accepted => {
+            let n = image::shape::wide(img[0]);
+            let w = image::shape::wide(img[1]);
+            survivors_sized(img, n, w)
+        }
     }
 }

@@ -44,14 +44,18 @@ module _ (c : ℕ) (h : Header) {f : Bool} (fl : f ≡ filledKind (h .kind)) whe
   unfolding kept
   kept-no t = rw (← fl, t)
 
+pub and-no : (a : Bool) → false ≡ a && false
+and-no true = refl
+and-no false = refl
+
+pub beats-uid : (c : ℕ) (h : Header) (l : List ℕ) (t : ℕ) {g : Header} → g ≡ header l t → (g .uid ≡ h .uid → ⊥) → false ≡ beats c h (header l t)
+unfolding beats
+beats-uid c h l t {g} at u = rw (← at, ne-eqb (g .uid) (h .uid) u) (and-no (kept c g))
+
 module _ (c : ℕ) (h : Header) (l : List ℕ) (t : ℕ) {g : Header} {k : Bool} (at : g ≡ header l t) (kp : k ≡ kept c g) where
   pub beats-yes : k ≡ true → g .uid ≡ h .uid → ltb (h .epoch) (g .epoch) ≡ beats c h (header l t)
   unfolding beats
   beats-yes e u = rw (← at, ← kp, e, eq-eqb (g .uid) (h .uid) u)
-
-  pub beats-uid : k ≡ true → (g .uid ≡ h .uid → ⊥) → false ≡ beats c h (header l t)
-  unfolding beats
-  beats-uid e u = rw (← at, ← kp, e, ne-eqb (g .uid) (h .uid) u)
 
   pub beats-no : k ≡ false → false ≡ beats c h (header l t)
   unfolding beats

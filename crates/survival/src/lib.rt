@@ -15,18 +15,14 @@ pub fn kept(h: Header, c: u32) -> bool
     }
 }
 
-// Does the header of slot `t` beat `h`?
+// Does the header of slot `t` beat `h`? The uid is looked at first: in most slots it is another one.
 fn beats_at(img: &[u32], n: usize, c: u32, h: Header, t: usize) -> bool
     requires { ⌜ HeaderFits (now img) n t ⌝ }
     ensures { λ r. ⌜ r ≡ beats c h (header (now (img .entry)) t) ⌝ }
 {
     let g = image::header::header_at(img, n, t);
-    if kept(g, c) {
-        if g.uid == h.uid {
-            h.epoch < g.epoch
-        } else {
-            false
-        }
+    if g.uid == h.uid {
+        if kept(g, c) { h.epoch < g.epoch } else { false }
     } else {
         false
     }

@@ -1,7 +1,7 @@
 -- What the proofs of this crate's functions cite.
 use Prim.Native.Nat.{ℕ, zero, suc, _+_, _*_, _-_, _≤_, _<_, _^_}
 use mathlib.Core.Path.{_≡_, refl, sym, ap, _∙_}
-use mathlib.Core.Bool.{Bool, true, false}
+use mathlib.Core.Bool.{Bool, true, false, cond, _&&_}
 use mathlib.Core.List.{List, _∷_}
 use mathlib.Core.Logic.{⊎-elim}
 use lib.ListN.{length, set, replicate, getD-replicate}
@@ -53,106 +53,152 @@ slot-of z = z .slot
 pub header-of : {wk tr : List ℕ} {n w t s : ℕ} → TableSlot wk tr n w t s → HeaderFits wk n s
 header-of z = slot-header (z .slot)
 
--- ---- newer, live
-module _ (wk : List ℕ) (n w key e s : ℕ) {h : Header} {f : Bool} (at : h ≡ header wk s) (fl : f ≡ filledKind (h .kind)) where
-  pub newer-free : f ≡ false → false ≡ newerAt wk n w key e s
-  unfolding newerAt
-  newer-free t = rw (← at, ← fl, t)
+-- ---- newer, live: the key is the last part of the tests, and the first that is looked at
+and-no : (a : Bool) → false ≡ a && false
+and-no true = refl
+and-no false = refl
 
-  pub newer-key : {k : ℕ} → f ≡ true → k ≡ keyAt wk n w s → (k ≡ key → ⊥) → false ≡ newerAt wk n w key e s
-  unfolding newerAt
-  newer-key t q d = rw (← at, ← fl, t, ← q, ne-eqb _ key d)
+and-yes : (a : Bool) → a ≡ a && true
+and-yes true = refl
+and-yes false = refl
 
-  pub newer-epoch : {k : ℕ} → f ≡ true → k ≡ keyAt wk n w s → k ≡ key → ltb e (h .epoch) ≡ newerAt wk n w key e s
+module _ (wk : List ℕ) (n w key e s : ℕ) {k : ℕ} (q : k ≡ keyAt wk n w s) where
+  pub newer-other : (k ≡ key → ⊥) → false ≡ newerAt wk n w key e s
   unfolding newerAt
-  newer-epoch {k} t q d = rw (← at, ← fl, t, ← q, eq-eqb k key d)
+  newer-other d = rw (← q, ne-eqb k key d) (and-no (filledKind (header wk s .kind)))
 
-module _ (wk tr : List ℕ) (n w t key s : ℕ) {h : Header} {p : Bool} (at : h ≡ header wk s) (pl : p ≡ payloadKind (h .kind)) where
-  pub live-not : p ≡ false → false ≡ liveAt wk tr n w t key s
+  module _ {h : Header} {f : Bool} (d : k ≡ key) (at : h ≡ header wk s) (fl : f ≡ filledKind (h .kind)) where
+    pub newer-free : f ≡ false → false ≡ newerAt wk n w key e s
+    unfolding newerAt
+    newer-free t = rw (← at, ← fl, t)
+
+    pub newer-epoch : f ≡ true → ltb e (h .epoch) ≡ newerAt wk n w key e s
+    unfolding newerAt
+    newer-epoch t = rw (← at, ← fl, t, ← q, eq-eqb k key d)
+
+module _ (wk tr : List ℕ) (n w t key s : ℕ) {k : ℕ} (q : k ≡ keyAt wk n w s) where
+  pub live-other : (k ≡ key → ⊥) → false ≡ liveAt wk tr n w t key s
   unfolding liveAt
-  live-not e = rw (← at, ← pl, e)
+  live-other d =
+      rw (← q, ne-eqb k key d, ← and-no (eqb (retiredIn tr t s) 0))
+      (and-no (payloadKind (header wk s .kind)))
 
-  module _ {r : ℕ} (pt : p ≡ true) (re : r ≡ retiredIn tr t s) where
-    pub live-retired : (r ≡ 0 → ⊥) → false ≡ liveAt wk tr n w t key s
+  module _ {h : Header} {p : Bool} (d : k ≡ key) (at : h ≡ header wk s) (pl : p ≡ payloadKind (h .kind)) where
+    pub live-not : p ≡ false → false ≡ liveAt wk tr n w t key s
     unfolding liveAt
-    live-retired d = rw (← at, ← pl, pt, ← re, ne-eqb r 0 d)
+    live-not e = rw (← at, ← pl, e)
 
-    pub live-key : {k : ℕ} → r ≡ 0 → k ≡ keyAt wk n w s → eqb k key ≡ liveAt wk tr n w t key s
+    pub live-retired : {r : ℕ} → p ≡ true → r ≡ retiredIn tr t s → eqb r 0 ≡ liveAt wk tr n w t key s
     unfolding liveAt
-    live-key d q = rw (← at, ← pl, pt, ← re, eq-eqb r 0 d, ← q)
+    live-retired {r} e re = rw (← at, ← pl, e, ← re, ← q, eq-eqb k key d) (and-yes (eqb r 0))
 
 pub live-slot : (wk tr : List ℕ) (n w t key : ℕ) {r : Found} → r ≡ firstOf (liveAt wk tr n w t key) n → r ≡ liveSlot wk tr n w t key
 unfolding liveSlot
 live-slot wk tr n w t key e = e
 
--- ---- one walk for both, from the last slot down: none from s on is newer, and `live` is the first live one from s on
-pub record Descending (p q : ℕ → Bool) (n s live : ℕ) : Type 0 where
+-- ---- one walk up for both: none below s is newer, and `live` is the first live one below s, or n
+unfoldable pub sooner : Bool → ℕ → ℕ → ℕ → ℕ
+sooner b n s live = cond b (cond (ltb live n) live s) live
+
+module _ (n s live : ℕ) {b q : Bool} (e : b ≡ q) where
+  pub sooner-old : b ≡ true → live < n → live ≡ sooner q n s live
+  unfolding sooner
+  sooner-old t h = rw (← e, t, lt-ltb live n h)
+
+  pub sooner-here : b ≡ true → n ≤ live → s ≡ sooner q n s live
+  unfolding sooner
+  sooner-here t h = rw (← e, t, le-ltb live n h)
+
+  pub sooner-not : b ≡ false → live ≡ sooner q n s live
+  unfolding sooner
+  sooner-not t = rw (← e, t)
+
+sooner-kept : (b : Bool) (n s live : ℕ) → ltb live n ≡ true → sooner b n s live ≡ live
+unfolding sooner
+sooner-kept true n s live e = rw e
+sooner-kept false n s live e = refl
+
+pub record Ascending (p q : ℕ → Bool) (n s live : ℕ) : Type 0 where
   pub low : s ≤ n
-  pub top : live ≤ n
-  pub none : (k : ℕ) → s ≤ k → k < n → p k ≡ false
-  pub so-far : live ≡ first q s (n - s)
+  pub none : (k : ℕ) → k < s → p k ≡ false
+  pub so-far : first q 0 n ≡ cond (ltb live n) live (first q s (n - s))
 
-pub descending-start : (p q : ℕ → Bool) (n : ℕ) → Descending p q n n n
-unfolding first
-descending-start p q n =
-    let z : n - n ≡ 0 = omega arith in
-    record { low = omega arith; top = omega arith; none = λ k a b. absurd (omega arith); so-far = rw z }
+pub ascending-start : (p q : ℕ → Bool) (n : ℕ) → Ascending p q n 0 n
+ascending-start p q n =
+    let z : n - 0 ≡ n = omega arith in
+    record { low = omega arith; none = λ k h. absurd (omega arith); so-far = rw (le-ltb n n (omega arith), z) }
 
-module _ {p q : ℕ → Bool} {n s live : ℕ} {a : Bool} (z : Descending p q n s live) (h : 0 < s) (na : a ≡ p (s - 1)) where
-  pub descending-newer : a ≡ true → some p n ≡ true
-  descending-newer t = some-at p n (s - 1) (omega (arith, z .low)) (sym na ∙ t)
+module _ {p q : ℕ → Bool} {n s live : ℕ} {a : Bool} (z : Ascending p q n s live) (h : s < n) (na : a ≡ p s) where
+  ascending-newer : a ≡ true → some p n ≡ true
+  ascending-newer t = some-at p n s h (sym na ∙ t)
 
-  module _ (nf : a ≡ false) where
-    none-more : (k : ℕ) → s - 1 ≤ k → k < n → p k ≡ false
-    none-more k l u =
-        ⊎-elim
-        (λ (e : s - 1 ≡ k). rw (← e) (sym na ∙ nf))
-        (λ (m : s - 1 < k). z .none k (omega arith) u)
-        (eq-or-lt-of-le l)
+  module _ (live′ : ℕ) (m : live′ ≡ sooner (q s) n s live) where
+    first-kept : ltb live n ≡ true → first q 0 n ≡ cond (ltb live′ n) live′ (first q (s + 1) (n - (s + 1)))
+    first-kept t =
+        let v : live′ ≡ live = m ∙ sooner-kept (q s) n s live t in
+        let u : first q 0 n ≡ live = rw t at (z .so-far) in
+        rw (v, t) u
 
-    pub descending-live : {b : Bool} {live′ : ℕ} → b ≡ q (s - 1) → b ≡ true → live′ ≡ s - 1 → Descending p q n (s - 1) live′
-    unfolding first
-    descending-live lb t e =
-        let y : n - (s - 1) ≡ suc (n - s) = omega (arith, z .low) in
-        let x : q (s - 1) ≡ true = sym lb ∙ t in
-        record { low = omega (arith, z .low); top = omega (arith, z .low, e); none = none-more; so-far = rw (y, x) e }
+    first-here : ltb live n ≡ false → q s ≡ true → first q 0 n ≡ cond (ltb live′ n) live′ (first q (s + 1) (n - (s + 1)))
+    unfolding first sooner
+    first-here f x =
+        let y : n - s ≡ suc (n - (s + 1)) = omega arith in
+        let v : live′ ≡ s = rw (x, f) at m in
+        let u : first q 0 n ≡ s = rw (f, y, x) at (z .so-far) in
+        rw (v, lt-ltb s n h) u
 
-    pub descending-other : {b : Bool} {live′ : ℕ} → b ≡ q (s - 1) → b ≡ false → live′ ≡ live → Descending p q n (s - 1) live′
-    unfolding first
-    descending-other lb t e =
-        let y : n - (s - 1) ≡ suc (n - s) = omega (arith, z .low) in
-        let x : q (s - 1) ≡ false = sym lb ∙ t in
-        let v : s - 1 + 1 ≡ s = omega arith in
-        record { low = omega (arith, z .low); top = omega (arith, z .top, e); none = none-more; so-far = rw (y, x, v) (e ∙ z .so-far) }
+    first-later : ltb live n ≡ false → q s ≡ false → first q 0 n ≡ cond (ltb live′ n) live′ (first q (s + 1) (n - (s + 1)))
+    unfolding first sooner
+    first-later f x =
+        let y : n - s ≡ suc (n - (s + 1)) = omega arith in
+        let v : live′ ≡ live = rw x at m in
+        let u : first q 0 n ≡ first q (s + 1) (n - (s + 1)) = rw (f, y, x) at (z .so-far) in
+        rw (v, f) u
 
-pub descending-slot : {wk tr : List ℕ} {n w t s live : ℕ} {p q : ℕ → Bool} → Table wk tr n w t → Descending p q n s live → 0 < s → Slot wk n w (s - 1)
-descending-slot y z h = slot (y .working) (omega (arith, z .low))
+  pub ascending-next : {live′ : ℕ} → a ≡ false → live′ ≡ sooner (q s) n s live → Ascending p q n (s + 1) live′
+  ascending-next {live′} nf m =
+      record {
+        low = omega arith;
+        none = λ k l.
+            ⊎-elim (λ (e : k ≡ s). rw e (sym na ∙ nf)) (λ (u : k < s). z .none k u) (eq-or-lt-of-le (omega arith));
+        so-far =
+            ⊎-elim
+            (λ (t : ltb live n ≡ true). first-kept live′ m t)
+            (λ (f : ltb live n ≡ false).
+            ⊎-elim
+            (λ (x : q s ≡ true). first-here live′ m f x)
+            (λ (x : q s ≡ false). first-later live′ m f x)
+            (cases (q s)))
+            (cases (ltb live n));
+      }
 
-pub descending-table : {wk tr : List ℕ} {n w t s live : ℕ} {p q : ℕ → Bool} → Table wk tr n w t → Descending p q n s live → 0 < s → TableSlot wk tr n w t (s - 1)
-descending-table y z h = record { slot = slot (y .working) (omega (arith, z .low)); notes = y .notes }
-
-module _ (wk tr : List ℕ) (n w t key e : ℕ) {s live : ℕ} (z : Descending (newerAt wk n w key e) (liveAt wk tr n w t key) n s live) where
-  pub lookup-newer : {a : Bool} → 0 < s → a ≡ newerAt wk n w key e (s - 1) → a ≡ true → Newer ≡ lookup wk tr n w t key e
+module _ (wk tr : List ℕ) (n w t key e : ℕ) {s live : ℕ} (z : Ascending (newerAt wk n w key e) (liveAt wk tr n w t key) n s live) where
+  pub lookup-newer : {a : Bool} → s < n → a ≡ newerAt wk n w key e s → a ≡ true → Newer ≡ lookup wk tr n w t key e
   unfolding lookup newer
-  lookup-newer h q y = rw (descending-newer z h q y)
+  lookup-newer h q y = rw (ascending-newer z h q y)
 
-  none-newer : s ≤ 0 → newer wk n w key e ≡ false
+  none-newer : n ≤ s → newer wk n w key e ≡ false
   unfolding newer
-  none-newer h = none-some (newerAt wk n w key e) n (λ k l. z .none k (omega arith) l)
+  none-newer h = none-some (newerAt wk n w key e) n (λ k l. z .none k (omega (arith, z .low)))
 
-  live-is : s ≤ 0 → live ≡ first (liveAt wk tr n w t key) 0 n
-  live-is h =
-      let a : s ≡ 0 = omega arith in
-      let b : n - 0 ≡ n = omega arith in
-      z .so-far ∙ rw (a, b)
+  live-is : live < n → first (liveAt wk tr n w t key) 0 n ≡ live
+  live-is l = let u = z .so-far in rw (lt-ltb live n l) at u
 
-  pub lookup-live : s ≤ 0 → live < n → Live live ≡ lookup wk tr n w t key e
+  none-live : n ≤ s → n ≤ live → first (liveAt wk tr n w t key) 0 n ≡ n
+  unfolding first
+  none-live h l =
+      let a : n - s ≡ 0 = omega arith in
+      let b : s ≡ n = omega (arith, z .low) in
+      let u : first (liveAt wk tr n w t key) 0 n ≡ s = rw (le-ltb live n l, a) at (z .so-far) in
+      u ∙ b
+
+  pub lookup-live : n ≤ s → live < n → Live live ≡ lookup wk tr n w t key e
   unfolding lookup liveSlot firstOf
-  lookup-live h l = rw (none-newer h, ← live-is h, lt-ltb live n l)
+  lookup-live h l = rw (none-newer h, live-is l, lt-ltb live n l)
 
-  pub lookup-absent : s ≤ 0 → n ≤ live → Absent ≡ lookup wk tr n w t key e
+  pub lookup-absent : n ≤ s → n ≤ live → Absent ≡ lookup wk tr n w t key e
   unfolding lookup liveSlot firstOf
-  lookup-absent h l = rw (none-newer h, ← live-is h, le-ltb live n l)
+  lookup-absent h l = rw (none-newer h, none-live h l, le-ltb n n (omega arith))
 
 -- ---- free slots
 module _ (wk : List ℕ) (s : ℕ) {h : Header} {f : Bool} (at : h ≡ header wk s) (fl : f ≡ filledKind (h .kind)) where
@@ -322,6 +368,6 @@ pub joined-done : (tr : List ℕ) (n t e s : ℕ) {b c : List ℕ} → b ≡ set
 unfolding joined
 joined-done tr n t e s r u = rw (u, r)
 
-pub ruleset finds = (tests, firsts, rounds, table-slot, working-slot, slot-header, slot-note, slot-of, header-of, newer-free, newer-key, newer-epoch, live-not, live-retired, live-key, live-slot, descending-start, descending-slot, descending-table, descending-live, descending-other, lookup-newer, lookup-live, lookup-absent, free-no, free-yes, ring-ahead, ring-round, ring-of, ring-header, rooms-all, rooms-rest, room-one, room-none, room-two, room-alone)
+pub ruleset finds = (tests, firsts, rounds, table-slot, working-slot, slot-header, slot-note, slot-of, header-of, newer-other, newer-free, newer-epoch, live-other, live-not, live-retired, live-slot, sooner-old, sooner-here, sooner-not, ascending-start, ascending-next, lookup-newer, lookup-live, lookup-absent, free-no, free-yes, ring-ahead, ring-round, ring-of, ring-header, rooms-all, rooms-rest, room-one, room-none, room-two, room-alone)
 
 pub ruleset fills = (zeros-start, zeros-next, storing-end, value-room, value-set, slot-value, value-slot, slot-after, header-after, filled-value, filled-zeros, note-head, note-slot, note-after, taken-done, joined-done)

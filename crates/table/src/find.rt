@@ -5,7 +5,7 @@ ghost use Prim.Native.Nat.{_+_};
 ghost use Rattle.search.specs.Ring.{ringSlot, firstRound};
 ghost use Rattle.image.specs.Layout.{Slot, HeaderFits};
 ghost use Rattle.table.specs.Find.{newerAt, liveAt, liveSlot, lookup, freeAt, room};
-ghost use Rattle.table.specs.Code.{Table, TableSlot, Ring, RingStart, Rooms};
+ghost use Rattle.table.specs.Code.{Table, TableSlot, Ring, RingStart, Rooms, sooner};
 
 // What a key finds for an operation: a later epoch has it, a live slot holds it, or neither.
 pub enum Lookup {
@@ -14,13 +14,14 @@ pub enum Lookup {
     Absent,
 }
 
+// The key is looked at first: in most slots it is another one.
 fn newer_at(working: &[u32], n: usize, w: usize, key: u32, e: u32, s: usize) -> bool
     requires { ⌜ Slot (now working) n w s ⌝ }
     ensures { λ r. ⌜ r ≡ newerAt (now (working .entry)) n w key e s ⌝ }
 {
-    let h = image::header::header_at(working, n, s);
-    if image::header::filled(h.kind) {
-        if image::contents::key_at(working, n, w, s) == key {
+    if image::contents::key_at(working, n, w, s) == key {
+        let h = image::header::header_at(working, n, s);
+        if image::header::filled(h.kind) {
             e < h.epoch
         } else {
             false
@@ -42,10 +43,10 @@ fn live_at(
     requires { ⌜ TableSlot (now working) (now transient) n w t s ⌝ }
     ensures { λ r. ⌜ r ≡ liveAt (now (working .entry)) (now (transient .entry)) n w t key s ⌝ }
 {
-    let h = image::header::header_at(working, n, s);
-    if image::header::payload(h.kind) {
-        if transient::notes::retired_in(transient, n, t, s) == 0 {
-            image::contents::key_at(working, n, w, s) == key
+    if image::contents::key_at(working, n, w, s) == key {
+        let h = image::header::header_at(working, n, s);
+        if image::header::payload(h.kind) {
+            transient::notes::retired_in(transient, n, t, s) == 0
         } else {
             false
         }
@@ -76,7 +77,28 @@ pub fn find_live(
     Found::Nothing
 }
 
-// Both questions in one walk, from the last slot down, so that the lowest live slot is what is left.
+// The first live slot up to s, where `live` is the first one below s, or n.
+fn live_up_to(
+    working: &[u32],
+    transient: &[u32],
+    n: usize,
+    w: usize,
+    t: usize,
+    key: u32,
+    s: usize,
+    live: usize,
+) -> usize
+    requires { ⌜ TableSlot (now working) (now transient) n w t s ⌝ }
+    ensures { λ r. ⌜ r ≡ sooner (liveAt (now (working .entry)) (now (transient .entry)) n w t key s) n s live ⌝ }
+{
+    if live_at(working, transient, n, w, t, key, s) {
+        if live < n { live } else { s }
+    } else {
+        live
+    }
+}
+
+// Both questions in one walk up the table.
 pub fn look_up(
     working: &[u32],
     transient: &[u32],
@@ -90,16 +112,13 @@ pub fn look_up(
     ensures { λ r. ⌜ r ≡ lookup (now (working .entry)) (now (transient .entry)) n w t key e ⌝ }
 {
     let mut live = n;
-    let mut s = n;
-    while 0 < s {
-        let at = s - 1;
-        if newer_at(working, n, w, key, e, at) {
+    let mut s = 0;
+    while s < n {
+        if newer_at(working, n, w, key, e, s) {
             return Lookup::Newer;
         }
-        if live_at(working, transient, n, w, t, key, at) {
-            live = at;
-        }
-        s = at;
+        live = live_up_to(working, transient, n, w, t, key, s, live);
+        s += 1;
     }
     if live < n {
         Lookup::Live(live)

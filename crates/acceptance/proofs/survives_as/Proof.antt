@@ -10,7 +10,7 @@ pub survives-as-spec : {M : Type 1} → statement M
 survives-as-spec =
     tie.close
     (tie.spec
-    (λ c. search (needs, laws, marks, checks))
     (λ c κs. search (needs, laws, marks, checks))
+    (λ c. search (needs, laws, marks, checks))
     (λ c. search (needs, laws, marks, checks))
     (λ c. search (needs, laws, marks, checks)))

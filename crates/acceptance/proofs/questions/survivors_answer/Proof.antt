@@ -17,6 +17,8 @@ survivors-answer-spec =
     (λ c. search (needs, laws, marks, checks, asks))
     (λ c. search (needs, laws, marks, checks, asks))
     (λ c κs. search (needs, laws, marks, checks, asks))
+    (λ c. search (needs, laws, marks, checks, asks))
+    (λ c κs. search (needs, laws, marks, checks, asks))
     (λ c κs. search (needs, laws, marks, checks, asks))
     (λ c. search (needs, laws, marks, checks, asks))
     (λ c. search (needs, laws, marks, checks, asks)))

@@ -1,17 +1,17 @@
--- `look_up`: one walk down (`Descending`).
+-- `look_up`: one walk up (`Ascending`).
 use borrow.Author.Needs.{needs}
 use Rattle.table.specs.Code.{finds}
 use Prim.Native.Nat.{_-_}
 use Rattle.table.specs.Find.{newerAt, liveAt}
-use Rattle.table.specs.Code.{Descending}
+use Rattle.table.specs.Code.{Ascending}
 use Rattle.table.proofs.find.look_up.Statement.{statement}
 use Rattle.table.proofs.find.look_up.Tie as tie
 
 abbrev Inv-loop : tie.InvT-loop
-Inv-loop working transient n w t key e live₀ s₀ live s = Descending (newerAt working n w key e) (liveAt working transient n w t key) n s live
+Inv-loop working transient n w t key e live₀ s₀ live s = Ascending (newerAt working n w key e) (liveAt working transient n w t key) n s live
 
 abbrev μ-loop : tie.MeasureT-loop
-μ-loop working transient n w t key e live₀ s₀ live s = s
+μ-loop working transient n w t key e live₀ s₀ live s = n - s
 
 pub look-up-spec : {M : Type 1} → statement M
 look-up-spec =
@@ -20,11 +20,9 @@ look-up-spec =
     Inv-loop
     μ-loop
     (λ c. search (needs, finds))
-    (λ c. search (needs, finds))
     (λ c κs. search (needs, finds))
     (λ c. search (needs, finds))
     (λ c κs. search (needs, finds))
-    (λ c. search (needs, finds))
     (λ c. search (needs, finds))
     (λ c. search (needs, finds))
     (λ c. search (needs, finds))

@@ -1,0 +1,365 @@
+/* The library against the same rules by hand in C (rules.c). Each call is made by both on equal stores, and replies
+   and every word they left are compared while it runs.
+   Usage: bench --quick          comparisons alone, a few of each
+          bench --times          the same, timed: a line for each call and size
+          bench --counts         once each, between callgrind's marks: run it under callgrind */
+
+#include "rules.h"
+
+#include <inttypes.h>
+#include <stdbool.h>
+#include <stdio.h>
+#include <stdlib.h>
+#include <string.h>
+#include <time.h>
+#include <valgrind/callgrind.h>
+
+enum { WORDS = 4, VALUE_WORDS = WORDS - 1, THREADS = 4, MOST_COPIES = 64, MOST_ROUNDS = 400 };
+
+static const struct calls sides[] = {CALLS(board), CALLS(rules)};
+static const char *const side_names[] = {"library", "C"};
+
+/* A store, and the key that the measured call takes. */
+struct bed {
+    uint32_t slots, key;
+    size_t image, notes;
+    uint32_t *working, *persistent, *transient;
+};
+
+#define BED(b) (b)->working, (b)->image, (b)->persistent, (b)->image, (b)->transient, (b)->notes
+
+static const uint32_t value[VALUE_WORDS] = {7, 212, 555}, other_value[VALUE_WORDS] = {8, 213, 0};
+
+static void fail(const char *what)
+{
+    fprintf(stderr, "bench: %s\n", what);
+    exit(1);
+}
+
+static void accepted(uint64_t answer)
+{
+    if (answer != 0)
+        fail(board_refusal_text(answer));
+}
+
+static struct bed new_bed(uint32_t slots)
+{
+    struct bed b = {.slots = slots, .image = board_image_words(slots, WORDS),
+                    .notes = board_transient_words(slots, THREADS)};
+    b.working = malloc((2 * b.image + b.notes) * sizeof *b.working);
+    if (b.working == NULL)
+        fail("no memory");
+    b.persistent = b.working + b.image;
+    b.transient = b.persistent + b.image;
+    return b;
+}
+
+static void copy_bed(struct bed *to, const struct bed *from)
+{
+    memcpy(to->working, from->working, (2 * from->image + from->notes) * sizeof *to->working);
+}
+
+static bool same_bed(const struct bed *a, const struct bed *b)
+{
+    return memcmp(a->working, b->working, (2 * a->image + a->notes) * sizeof *a->working) == 0;
+}
+
+/* ---- Stores to measure on. Jobs are numbered from 1 ---- */
+
+static void sync_bed(struct bed *b)
+{
+    if (board_sync(BED(b)) >= BOARD_REFUSED)
+        fail("sync declined");
+}
+
+static void format_bed(struct bed *b) { accepted(board_format(BED(b), b->slots, WORDS)); }
+static void begin(struct bed *b) { accepted(board_begin(BED(b), 0)); }
+static void end(struct bed *b) { accepted(board_end(BED(b), 0)); }
+
+static void new_jobs(struct bed *b, uint32_t first, uint32_t count)
+{
+    for (uint32_t key = first; key < first + count; key++)
+        accepted(board_new(BED(b), 0, key, value, VALUE_WORDS));
+}
+
+/* So many jobs of an old epoch. */
+static void old_jobs(struct bed *b, uint32_t count)
+{
+    format_bed(b);
+    begin(b);
+    new_jobs(b, 1, count);
+    end(b);
+    sync_bed(b);
+}
+
+static void half_full(struct bed *b) { old_jobs(b, b->slots / 2); }
+
+static void half_full_open(struct bed *b)
+{
+    half_full(b);
+    begin(b);
+}
+
+/* Half the slots hold jobs of the open operation's epoch. */
+static void young(struct bed *b)
+{
+    format_bed(b);
+    begin(b);
+    new_jobs(b, 1, b->slots / 2);
+}
+
+/* A quarter of the slots hold jobs, and some epochs of work have passed, each with a sixteenth of sets, of deletes and
+   of new jobs. */
+static void at_work(struct bed *b)
+{
+    uint32_t part = b->slots / 16, next = b->slots / 4 + 1;
+    old_jobs(b, b->slots / 4);
+    for (uint32_t epoch = 0; epoch < 5; epoch++) {
+        begin(b);
+        for (uint32_t i = 0; i < part; i++) {
+            accepted(board_set(BED(b), 0, next - 1 - i, other_value, VALUE_WORDS));
+            accepted(board_delete(BED(b), 0, 1 + epoch * part + i));
+        }
+        new_jobs(b, next, part);
+        next += part;
+        end(b);
+        if (epoch < 4)
+            while (board_advance(BED(b)) == BOARD_STORED)
+                ;
+    }
+}
+
+/* Half the slots hold jobs, and changes are made durable one by one. */
+static void settled(struct bed *b)
+{
+    half_full(b);
+    for (uint32_t key = 1; key <= 4; key++) {
+        begin(b);
+        accepted(board_set(BED(b), 0, key, other_value, VALUE_WORDS));
+        end(b);
+        sync_bed(b);
+    }
+}
+
+/* Every slot that can hold a job holds one, of an old epoch. */
+static void full(struct bed *b) { old_jobs(b, b->slots - 1); }
+
+/* The same after a cut that left a young version in one slot of eight. */
+static void full_cut(struct bed *b)
+{
+    uint32_t young_ones = b->slots / 8;
+    old_jobs(b, b->slots - young_ones - 1);
+    begin(b);
+    for (uint32_t key = 1; key <= young_ones; key++)
+        accepted(board_set(BED(b), 0, key, other_value, VALUE_WORDS));
+    for (uint32_t slot = 0; slot < b->slots; slot++)
+        for (uint32_t line = 0; line < 2; line++)
+            accepted(board_write_back(BED(b), slot, line));
+}
+
+/* ---- What is measured. A reply is a number that both sides must agree in ---- */
+
+static uint64_t do_new(const struct calls *c, struct bed *b)
+{
+    return c->new(BED(b), 0, b->slots + b->key, value, VALUE_WORDS);
+}
+
+static uint64_t do_set(const struct calls *c, struct bed *b)
+{
+    return c->set(BED(b), 0, b->key, other_value, VALUE_WORDS);
+}
+
+static uint64_t do_delete(const struct calls *c, struct bed *b) { return c->delete(BED(b), 0, b->key); }
+static uint64_t do_read(const struct calls *c, struct bed *b) { return c->read(BED(b), 1, b->key); }
+static uint64_t do_read_absent(const struct calls *c, struct bed *b) { return c->read(BED(b), 1, b->slots + b->key); }
+
+static uint64_t do_advance(const struct calls *c, struct bed *b)
+{
+    uint64_t lines = 1;
+    while (c->advance(BED(b)) == BOARD_STORED)
+        lines++;
+    return lines;
+}
+
+static uint64_t do_durable(const struct calls *c, struct bed *b)
+{
+    uint64_t refused = c->begin(BED(b), 0);
+    refused += c->set(BED(b), 0, b->key, other_value, VALUE_WORDS);
+    refused += c->end(BED(b), 0);
+    return refused * 1000000 + c->sync(BED(b));
+}
+
+static uint64_t do_recover(const struct calls *c, struct bed *b)
+{
+    uint64_t calls = 1, answer;
+    while ((answer = c->recover(BED(b))) == BOARD_WENT_ON)
+        calls++;
+    return answer == BOARD_DONE ? calls : answer;
+}
+
+static uint64_t do_survivors(const struct calls *c, struct bed *b)
+{
+    return c->survivors((const uint8_t *)b->persistent, b->image * sizeof *b->persistent);
+}
+
+static const struct measure {
+    const char *name;
+    void (*prepare)(struct bed *);
+    uint64_t (*run)(const struct calls *, struct bed *);
+    bool per_reply;  /* the cost is for each line or call that the reply counts */
+    uint64_t wanted; /* the reply, where it is the same at every size */
+} measures[] = {
+    {"new", half_full_open, do_new, false, 0},
+    {"set in place", young, do_set, false, 0},
+    {"set by a new version", half_full_open, do_set, false, 0},
+    {"delete", half_full_open, do_delete, false, 0},
+    {"read, present", half_full, do_read, false, UINT64_MAX},
+    {"read, absent", half_full, do_read_absent, false, BOARD_REFUSED + BOARD_NO_JOB},
+    {"advance, per line", at_work, do_advance, true, UINT64_MAX},
+    {"durable change", settled, do_durable, false, UINT64_MAX},
+    {"recovery, nothing to free", full, do_recover, false, 1},
+    {"recovery, 1 slot in 8 to free", full_cut, do_recover, false, UINT64_MAX},
+    {"board_survivors", full, do_survivors, false, UINT64_MAX},
+};
+enum { MEASURES = sizeof measures / sizeof *measures };
+static const uint32_t sizes[] = {16, 128, 1024};
+enum { SIZES = sizeof sizes / sizeof *sizes };
+
+static double seconds(void)
+{
+    struct timespec now;
+    clock_gettime(CLOCK_MONOTONIC, &now);
+    return (double)now.tv_sec + 1e-9 * (double)now.tv_nsec;
+}
+
+static int by_size(const void *a, const void *b)
+{
+    double x = *(const double *)a, y = *(const double *)b;
+    return (x > y) - (x < y);
+}
+
+static double median(double *numbers, int count)
+{
+    qsort(numbers, (size_t)count, sizeof *numbers, by_size);
+    return count % 2 ? numbers[count / 2] : (numbers[count / 2 - 1] + numbers[count / 2]) / 2;
+}
+
+/* A job that is there, other ones for other copies. */
+static uint32_t key_of_copy(uint32_t slots, int copy) { return 1 + (uint32_t)copy * (slots / 16 + 1) % (slots / 2); }
+
+/* One side's calls on all copies, and how long they took. */
+static double run_side(const struct measure *m, int side, struct bed *beds, int copies, uint64_t *replies)
+{
+    double start = seconds();
+    for (int i = 0; i < copies; i++)
+        replies[i] = m->run(&sides[side], &beds[i]);
+    return seconds() - start;
+}
+
+static void compare(const struct measure *m, const struct bed *library, const struct bed *c, uint64_t reply,
+                    uint64_t c_reply)
+{
+    bool expected = m->wanted == UINT64_MAX ? reply < BOARD_REFUSED : reply == m->wanted;
+    if (reply == c_reply && expected && same_bed(library, c))
+        return;
+    fprintf(stderr, "bench: %s at %" PRIu32 " slots: the library replies %" PRIu64 ", C %" PRIu64 "%s%s\n", m->name,
+            library->slots, reply, c_reply, expected ? "" : ", which is not what is measured",
+            same_bed(library, c) ? "" : "; they leave different words");
+    exit(1);
+}
+
+static double per_unit(const struct measure *m, double cost, const uint64_t *replies, int copies)
+{
+    uint64_t units = 0;
+    for (int i = 0; i < copies; i++)
+        units += m->per_reply ? replies[i] : 1;
+    return cost / (double)units;
+}
+
+/* Rounds of both sides in turn on fresh copies: the medians of each side's cost and of their ratio. */
+static uint64_t measure(const struct measure *m, uint32_t slots, bool timed)
+{
+    static double cost[2][MOST_ROUNDS], ratio[MOST_ROUNDS];
+    struct bed base = new_bed(slots), beds[2][MOST_COPIES];
+    uint64_t replies[2][MOST_COPIES];
+    int copies = slots <= 16 ? 64 : slots <= 128 ? 16 : 4, rounds = 0;
+    if (slots == 1024 && m->prepare == full_cut)
+        copies = 1;
+    m->prepare(&base);
+    for (int side = 0; side < 2; side++)
+        for (int i = 0; i < copies; i++) {
+            beds[side][i] = new_bed(slots);
+            beds[side][i].key = key_of_copy(slots, i);
+        }
+    double start = seconds(), limit = timed ? 1.0 : 0;
+    int least = timed ? 15 : 2;
+    while (rounds < least || (seconds() - start < limit && rounds < MOST_ROUNDS)) {
+        double took[2];
+        for (int turn = 0; turn < 2; turn++) {
+            int side = (rounds + turn) % 2;
+            for (int i = 0; i < copies; i++)
+                copy_bed(&beds[side][i], &base);
+            took[side] = run_side(m, side, beds[side], copies, replies[side]);
+        }
+        for (int i = 0; i < copies; i++)
+            compare(m, &beds[0][i], &beds[1][i], replies[0][i], replies[1][i]);
+        for (int side = 0; side < 2; side++)
+            cost[side][rounds] = per_unit(m, took[side], replies[side], copies);
+        ratio[rounds] = took[0] / took[1];
+        rounds++;
+    }
+    if (timed)
+        printf("time\t%s\t%" PRIu32 "\t%.1f\t%.1f\t%.3f\t%d\n", m->name, slots, 1e9 * median(cost[0], rounds),
+               1e9 * median(cost[1], rounds), median(ratio, rounds), rounds);
+    for (int side = 0; side < 2; side++)
+        for (int i = 0; i < copies; i++)
+            free(beds[side][i].working);
+    free(base.working);
+    return (uint64_t)rounds * (uint64_t)copies;
+}
+
+/* Each side once, its instructions dumped under a name of their own. */
+static void count(const struct measure *m, uint32_t slots)
+{
+    char name[128];
+    struct bed base = new_bed(slots), bed = new_bed(slots);
+    m->prepare(&base);
+    for (int side = 0; side < 2; side++) {
+        copy_bed(&bed, &base);
+        bed.key = key_of_copy(slots, 5);
+        const struct calls *c = &sides[side];
+        CALLGRIND_TOGGLE_COLLECT;
+        uint64_t reply = m->run(c, &bed);
+        CALLGRIND_TOGGLE_COLLECT;
+        snprintf(name, sizeof name, "%s|%" PRIu32 "|%s|%" PRIu64, m->name, slots, side_names[side],
+                 m->per_reply ? reply : 1);
+        CALLGRIND_DUMP_STATS_AT(name);
+    }
+    free(base.working);
+    free(bed.working);
+}
+
+int main(int arguments, char **argument)
+{
+    const char *mode = arguments == 2 ? argument[1] : "";
+    bool quick = strcmp(mode, "--quick") == 0, times = strcmp(mode, "--times") == 0;
+    if (!quick && !times && strcmp(mode, "--counts") != 0) {
+        fprintf(stderr, "usage: bench --quick | --times | --counts\n");
+        return 2;
+    }
+    uint64_t compared = 0;
+    for (int i = 0; i < MEASURES; i++)
+        for (int size = 0; size < SIZES; size++) {
+            if (!quick)
+                fprintf(stderr, "  %d of %d: %s, %" PRIu32 " slots\n", i * SIZES + size + 1, MEASURES * SIZES,
+                        measures[i].name, sizes[size]);
+            if (quick || times)
+                compared += measure(&measures[i], sizes[size], times);
+            else
+                count(&measures[i], sizes[size]);
+            fflush(stdout);
+        }
+    if (quick)
+        printf("%d calls at %d sizes, %" PRIu64 " comparisons, library and C agree\n", MEASURES, SIZES, compared);
+    return 0;
+}

@@ -1,0 +1,54 @@
+/* The calls of board.h once more, under another name: RULES(new) is rules_new unless the includer says otherwise. */
+#ifndef RULES_H
+#define RULES_H
+
+#include "board.h"
+
+#ifndef RULES
+#define RULES(name) rules_##name
+#endif
+
+#define STORE uint32_t *working, size_t working_words, uint32_t *persistent, size_t persistent_words, \
+              uint32_t *transient, size_t transient_words
+#define READ_STORE const uint32_t *working, size_t working_words, const uint32_t *persistent, \
+                   size_t persistent_words, const uint32_t *transient, size_t transient_words
+#define NOTES_STORE const uint32_t *working, size_t working_words, const uint32_t *persistent, \
+                    size_t persistent_words, uint32_t *transient, size_t transient_words
+#define CHANGE_STORE uint32_t *working, size_t working_words, const uint32_t *persistent, size_t persistent_words, \
+                     uint32_t *transient, size_t transient_words
+#define LINE_STORE const uint32_t *working, size_t working_words, uint32_t *persistent, size_t persistent_words, \
+                   const uint32_t *transient, size_t transient_words
+
+uint32_t RULES(format)(STORE, uint32_t slots, uint32_t words);
+uint32_t RULES(begin)(NOTES_STORE, uint32_t thread);
+uint32_t RULES(end)(NOTES_STORE, uint32_t thread);
+uint32_t RULES(new)(CHANGE_STORE, uint32_t thread, uint32_t key, const uint32_t *value, size_t value_words);
+uint32_t RULES(set)(CHANGE_STORE, uint32_t thread, uint32_t key, const uint32_t *value, size_t value_words);
+uint32_t RULES(delete)(CHANGE_STORE, uint32_t thread, uint32_t key);
+uint64_t RULES(read)(READ_STORE, uint32_t thread, uint32_t key);
+uint64_t RULES(advance)(STORE);
+uint64_t RULES(sync)(STORE);
+uint32_t RULES(write_back)(LINE_STORE, uint32_t slot, uint32_t line);
+uint64_t RULES(recover)(STORE);
+uint64_t RULES(survivors)(const uint8_t *image, size_t bytes);
+
+/* All calls of one version of the rules, so that a program can run on either. */
+struct calls {
+    uint32_t (*format)(STORE, uint32_t slots, uint32_t words);
+    uint32_t (*begin)(NOTES_STORE, uint32_t thread);
+    uint32_t (*end)(NOTES_STORE, uint32_t thread);
+    uint32_t (*new)(CHANGE_STORE, uint32_t thread, uint32_t key, const uint32_t *value, size_t value_words);
+    uint32_t (*set)(CHANGE_STORE, uint32_t thread, uint32_t key, const uint32_t *value, size_t value_words);
+    uint32_t (*delete)(CHANGE_STORE, uint32_t thread, uint32_t key);
+    uint64_t (*read)(READ_STORE, uint32_t thread, uint32_t key);
+    uint64_t (*advance)(STORE);
+    uint64_t (*sync)(STORE);
+    uint32_t (*write_back)(LINE_STORE, uint32_t slot, uint32_t line);
+    uint64_t (*recover)(STORE);
+    uint64_t (*survivors)(const uint8_t *image, size_t bytes);
+};
+
+#define CALLS(of) {of##_format, of##_begin, of##_end, of##_new, of##_set, of##_delete, of##_read, of##_advance, \
+                   of##_sync, of##_write_back, of##_recover, of##_survivors}
+
+#endif

@@ -1,0 +1,21 @@
+-- `survivors_sized`: each way out is a law.
+use borrow.Author.Needs.{needs}
+use Rattle.survival.specs.Code.{laws}
+use Rattle.survival.specs.Code.{marks}
+use Rattle.acceptance.specs.Code.{checks}
+use Rattle.acceptance.specs.Questions.{asks}
+use Rattle.acceptance.proofs.questions.survivors_sized.Statement.{statement}
+use Rattle.acceptance.proofs.questions.survivors_sized.Tie as tie
+
+pub survivors-sized-spec : {M : Type 1} → statement M
+survivors-sized-spec =
+    tie.close
+    (tie.spec
+    (λ c κs. search (needs, laws, marks, checks, asks))
+    (λ c κs. search (needs, laws, marks, checks, asks))
+    (λ c. search (needs, laws, marks, checks, asks))
+    (λ c κs. search (needs, laws, marks, checks, asks))
+    (λ c. search (needs, laws, marks, checks, asks))
+    (λ c κs. search (needs, laws, marks, checks, asks))
+    (λ c. search (needs, laws, marks, checks, asks))
+    (λ c. search (needs, laws, marks, checks, asks)))
