@@ -4,7 +4,7 @@ use mathlib.Core.Path.{_≡_, refl, sym, ap, _∙_}
 use mathlib.Core.Bool.{Bool, true, false, cond, _&&_}
 use mathlib.Core.List.{List, _∷_}
 use mathlib.Core.Logic.{⊎-elim}
-use lib.ListN.{length, set, replicate, getD-replicate}
+use lib.ListN.{length, set, replicate}
 use lib.Dec.{leb, ltb, eqb}
 use borrow.Author.Tests.{lt-ltb, le-ltb, eq-eqb, ne-eqb}
 use native.Mathlib.Omega.{arith}
@@ -19,9 +19,10 @@ use Rattle.search.specs.declared.Found.the-variants.{At, Nothing}
 use Rattle.image.specs.declared.header.Header.{Header}
 use Rattle.image.specs.Layout.{headerWords, contentsAt, filledKind, payloadKind, header, keyAt, stored, setContents, setHeader, Sized, Slot, HeaderFits}
 use Rattle.image.specs.Laws.{slot-after}
-use Rattle.image.specs.Code.{slot, header-fits, Storing, storing-start, storing-next, storing-end}
+use Rattle.image.specs.Code.{slot, header-fits, storing-end}
 use Rattle.transient.specs.Layout.{retiredIn, setLast, setRetired, setWaiting, Notes, NoteOf}
 use Rattle.transient.specs.Laws.{notes-after}
+use Rattle.transient.specs.Code.{emptying-start, emptying-next}
 use Rattle.table.specs.declared.find.Lookup.the-variants.{Newer, Live, Absent}
 use Rattle.table.specs.Find.{newerAt, newer, liveAt, liveSlot, lookedUp, lookup, freeAt, freeCount, room}
 use Rattle.table.specs.Fill.{setValue, filledSlot, joined, taken}
@@ -316,13 +317,6 @@ line-stored l n w s key value h =
     let z : w ≡ suc (w - 1) = omega arith in
     sym (ap (stored l (contentsAt n w s) (key ∷ value)) z ∙ stored-cons l (contentsAt n w s) key value (w - 1))
 
--- a loop has stored j of k zeros
-pub zeros-start : (l : List ℕ) (b k : ℕ) → Storing l b (replicate k 0) k 0 l
-zeros-start l b k = storing-start l b (replicate k 0) k
-
-pub zeros-next : {l₀ : List ℕ} {b k j : ℕ} {l : List ℕ} → Storing l₀ b (replicate k 0) k j l → j < k → Storing l₀ b (replicate k 0) k (j + 1) (set l (b + j) 0)
-zeros-next {l₀} {b} {k} {j} z h = storing-next z h (sym (getD-replicate k j 0 0 h))
-
 pub value-room : {l : List ℕ} {n w s : ℕ} → Slot l n w s → contentsAt n w s + 1 + (w - 1) ≤ length l
 value-room z = omega arith
 
@@ -370,4 +364,4 @@ joined-done tr n t e s r u = rw (u, r)
 
 pub ruleset finds = (tests, firsts, rounds, table-slot, working-slot, slot-header, slot-note, slot-of, header-of, newer-other, newer-free, newer-epoch, live-other, live-not, live-retired, live-slot, sooner-old, sooner-here, sooner-not, ascending-start, ascending-next, lookup-newer, lookup-live, lookup-absent, free-no, free-yes, ring-ahead, ring-round, ring-of, ring-header, rooms-all, rooms-rest, room-one, room-none, room-two, room-alone)
 
-pub ruleset fills = (zeros-start, zeros-next, storing-end, value-room, value-set, slot-value, value-slot, slot-after, header-after, filled-value, filled-zeros, note-head, note-slot, note-after, taken-done, joined-done)
+pub ruleset fills = (emptying-start, emptying-next, storing-end, value-room, value-set, slot-value, value-slot, slot-after, header-after, filled-value, filled-zeros, note-head, note-slot, note-after, taken-done, joined-done)
