@@ -51,7 +51,7 @@ target/demo/demo: demo/demo.c demo/early.c bench/rules.c bench/rules.h include/b
 demo: target/demo/demo
 	@$< --cuts $(CUTS) $(if $(SEED),--seed $(SEED))
 
-target/bench/%: bench/%.c bench/rules.c bench/rules.h include/board.h $(library)
+target/bench/%: bench/%.c bench/measure.h bench/rules.c bench/rules.h include/board.h $(library)
 	@tools/need gcc=gcc stdio.h=libc6-dev
 	@tools/need sqlite3.h=libsqlite3-dev lmdb.h=liblmdb-dev valgrind=valgrind valgrind/callgrind.h=valgrind
 	@mkdir -p $(@D)

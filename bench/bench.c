@@ -4,6 +4,7 @@
           bench --times          the same, timed: a line for each call and size
           bench --counts         once each, between callgrind's marks: run it under callgrind */
 
+#include "measure.h"
 #include "rules.h"
 
 #include <inttypes.h>
@@ -11,7 +12,6 @@
 #include <stdio.h>
 #include <stdlib.h>
 #include <string.h>
-#include <time.h>
 #include <valgrind/callgrind.h>
 
 enum { WORDS = 4, VALUE_WORDS = WORDS - 1, THREADS = 4, MOST_COPIES = 64, MOST_ROUNDS = 400 };
@@ -224,25 +224,6 @@ static const struct measure {
 enum { MEASURES = sizeof measures / sizeof *measures };
 static const uint32_t sizes[] = {16, 128, 1024};
 enum { SIZES = sizeof sizes / sizeof *sizes };
-
-static double seconds(void)
-{
-    struct timespec now;
-    clock_gettime(CLOCK_MONOTONIC, &now);
-    return (double)now.tv_sec + 1e-9 * (double)now.tv_nsec;
-}
-
-static int by_size(const void *a, const void *b)
-{
-    double x = *(const double *)a, y = *(const double *)b;
-    return (x > y) - (x < y);
-}
-
-static double median(double *numbers, int count)
-{
-    qsort(numbers, (size_t)count, sizeof *numbers, by_size);
-    return count % 2 ? numbers[count / 2] : (numbers[count / 2 - 1] + numbers[count / 2]) / 2;
-}
 
 /* A job that is there, other ones for other copies. */
 static uint32_t key_of_copy(uint32_t slots, int copy) { return 1 + (uint32_t)copy * (slots / 16 + 1) % (slots / 2); }

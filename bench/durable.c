@@ -3,6 +3,7 @@
    Usage: durable --quick | --times */
 
 #include "board.h"
+#include "measure.h"
 
 #include <fcntl.h>
 #include <inttypes.h>
@@ -15,7 +16,6 @@
 #include <sys/mman.h>
 #include <sys/stat.h>
 #include <sys/vfs.h>
-#include <time.h>
 #include <unistd.h>
 
 enum { WORDS = 4, VALUE_WORDS = WORDS - 1, THREADS = 1, ROUNDS = 25, CHANGES = 60 };
@@ -259,25 +259,6 @@ static const struct keeper keepers[] = {
     {"LMDB", lmdb_open, lmdb_change, lmdb_has, lmdb_close},
 };
 enum { KEEPERS = sizeof keepers / sizeof *keepers };
-
-static double seconds(void)
-{
-    struct timespec now;
-    clock_gettime(CLOCK_MONOTONIC, &now);
-    return (double)now.tv_sec + 1e-9 * (double)now.tv_nsec;
-}
-
-static int by_size(const void *a, const void *b)
-{
-    double x = *(const double *)a, y = *(const double *)b;
-    return (x > y) - (x < y);
-}
-
-static double median(double *numbers, int count)
-{
-    qsort(numbers, (size_t)count, sizeof *numbers, by_size);
-    return numbers[count / 2];
-}
 
 static void some_value(uint32_t *value, uint32_t key, uint32_t change)
 {

@@ -2,37 +2,12 @@
    Usage: epochs */
 
 #include "board.h"
-
-#include <stdint.h>
-#include <stdio.h>
-#include <stdlib.h>
-#include <string.h>
+#include "checks.h"
 
 enum { SLOTS = 8, WORDS = 3, THREADS = 2, VALUE_WORDS = WORDS - 1 };
 
 _Static_assert(BOARD_STILL_OPEN == 14 && BOARD_LAST_EPOCH == 15 && BOARD_NO_LINE == 16, "the header's refusals");
 _Static_assert(BOARD_STORED == 0 && BOARD_TICKED == 1, "what an advance call did");
-
-static size_t calls, failed;
-
-static void same(const char *what, uint64_t found, uint64_t wanted)
-{
-    calls++;
-    if (found != wanted) {
-        failed++;
-        printf("%s: %llu, wanted %llu\n", what, (unsigned long long)found, (unsigned long long)wanted);
-    }
-}
-
-/* A block of exactly this many words, so that a checker of memory sees any access beside it. */
-static uint32_t *block(size_t words)
-{
-    uint32_t *start = malloc(words * sizeof *start);
-    if (start == NULL)
-        exit(2);
-    memset(start, 0xA5, words * sizeof *start);
-    return start;
-}
 
 int main(void)
 {
