@@ -118,15 +118,6 @@ module _ (c : ℕ) (h : Header) (l : List ℕ) (t : ℕ) {g : Header} {k : Bool}
   unfolding sameVersion
   version-no e = rw (← at, ← kp, e)
 
-module _ (c : ℕ) (l : List ℕ) (s : ℕ) {h : Header} {k : Bool} (at : h ≡ header l s) (kp : k ≡ kept c h) where
-  pub below-yes : {r : Bool} → k ≡ true → r ≡ some (λ t. sameVersion c h (header l t)) s → r ≡ versionBelow c (header l) s
-  unfolding versionBelow
-  below-yes e p = rw (← at, ← kp, e) p
-
-  pub below-no : k ≡ false → false ≡ versionBelow c (header l) s
-  unfolding versionBelow
-  below-no e = rw (← at, ← kp, e)
-
 pub version-twice : (l : List ℕ) (n : ℕ) {c : ℕ} {r : Bool} → c ≡ clockOf l → r ≡ some (versionBelow c (header l)) n → r ≡ versionTwice l n
 unfolding versionTwice
 version-twice l n e h = rw (← e) h
@@ -173,4 +164,4 @@ module _ (l : List ℕ) (n w : ℕ) {p : Bool} (pr : p ≡ allProper l n) where
         unfolding slotsCheck
         slots-fine e = rw (← pr, pt, ← nm, kf, ← vt, vf, ← yt, e)
 
-pub ruleset checks = (blank-kind, blank-epoch, blank-uid, filled-no, filled-early, filled-late, filled-zero, filled-uid, proper-blank, proper-filled, all-proper, nameless-yes, nameless-no, as-yes, as-no, key-yes, key-no, some-nameless, key-twice, version-yes, version-uid, version-no, below-yes, below-no, version-twice, head-shape, head-clock, head-fine, shape-room, slots-improper, slots-nameless, slots-version, slots-key, slots-fine)
+pub ruleset checks = (blank-kind, blank-epoch, blank-uid, filled-no, filled-early, filled-late, filled-zero, filled-uid, proper-blank, proper-filled, all-proper, nameless-yes, nameless-no, as-yes, as-no, key-yes, key-no, some-nameless, key-twice, version-yes, version-uid, version-no, version-twice, head-shape, head-clock, head-fine, shape-room, slots-improper, slots-nameless, slots-version, slots-key, slots-fine)

@@ -2,3 +2,4 @@ pub mod Accept
 pub mod Sound
 pub mod Code
 pub mod Questions
+pub mod Twice

@@ -12,7 +12,7 @@ use native.Mathlib.Nat.{eq-or-lt-of-le}
 use native.Mathlib.Omega.{arith}
 use Rattle.search.specs.Bools.{tests}
 use Rattle.search.specs.First.{Sought, loops as firsts}
-use Rattle.search.specs.Some.{some, every, loops as somes}
+use Rattle.search.specs.Some.{loops as somes}
 use Rattle.search.specs.Count.{count, Counted, counted-hit, counted-miss, loops as counts}
 use Rattle.image.specs.declared.header.Header.{Header}
 use Rattle.image.specs.Layout.{filledKind, payloadKind, header, headerWords, clockOf, HeaderFits, Sized, Slot}
@@ -68,10 +68,6 @@ module _ (c : ℕ) (h : Header) (l : List ℕ) (t : ℕ) {g : Header} {k : Bool}
   pub anti-no : k ≡ false → false ≡ keptAnti c (header l t)
   unfolding keptAnti
   anti-no e = rw (← at, ← kp, e)
-
-pub beaten-is : (c : ℕ) (hs : ℕ → Header) (n : ℕ) (h : Header) {r : Bool} → r ≡ some (λ t. beats c h (hs t)) n → r ≡ beaten c hs n h
-unfolding beaten
-beaten-is c hs n h e = e
 
 module _ (c : ℕ) (l : List ℕ) (n s : ℕ) {h : Header} {p : Bool} (at : h ≡ header l s) (pl : p ≡ payloadKind (h .kind)) where
   pub survives-kind : p ≡ false → false ≡ survives c (header l) n s
@@ -144,15 +140,6 @@ pub record SlotMarked (l : List ℕ) (n w s : ℕ) (flags : List Bool) : Type 0 
   pub slot : Slot l n w s
   pub flagged : Flagged flags (survivor l n) n
 
--- the slots below s
-pub record Below (l : List ℕ) (n s : ℕ) : Type 0 where
-  pub headers : Headers l n
-  pub within : s < n
-
-pub record BelowMarked (l : List ℕ) (n w s : ℕ) (flags : List Bool) : Type 0 where
-  pub within : s < n
-  pub marked : AllMarked l n w flags
-
 pub headers-of : {l : List ℕ} {n w : ℕ} → Sized l n w → Headers l n
 headers-of z = record { slots-hi = z .sizes .slots-hi; long = omega arith }
 
@@ -161,18 +148,6 @@ all-headers z = headers-of (z .sized)
 
 pub slot-marked : {l : List ℕ} {n w s : ℕ} {flags : List Bool} → AllMarked l n w flags → s < n → SlotMarked l n w s flags
 slot-marked z h = record { slot = slot (z .sized) h; flagged = z .flagged }
-
-pub slot-below : {l : List ℕ} {n w s t : ℕ} {flags : List Bool} → BelowMarked l n w s flags → t < s → SlotMarked l n w t flags
-slot-below z h = slot-marked (z .marked) (omega arith)
-
-pub header-below : {l : List ℕ} {n s t : ℕ} → Below l n s → t < s → HeaderFits l n t
-header-below z h = header-in (z .headers) (omega arith)
-
-pub below-of : {l : List ℕ} {n s : ℕ} → HeaderOf l n s → Below l n s
-below-of z = record { headers = z .headers; within = z .within }
-
-pub below-marked : {l : List ℕ} {n w s : ℕ} {flags : List Bool} → SlotMarked l n w s flags → BelowMarked l n w s flags
-below-marked z = record { within = z .slot .within; marked = record { sized = z .slot .sized; flagged = z .flagged } }
 
 -- a flag read
 pub flag-is : {flags : List Bool} {p : ℕ → Bool} {n s : ℕ} {b : Bool} → Flagged flags p n → s < n → getD flags s false ≡ b → p s ≡ b
@@ -190,6 +165,6 @@ pub count-is : (l : List ℕ) (n : ℕ) {r : ℕ} → r ≡ count (survivor l n)
 unfolding survivorCount
 count-is l n e = e
 
-pub ruleset laws = (tests, firsts, somes, header-in, header-of, kept-yes, kept-no, beats-yes, beats-uid, beats-no, anti-yes, anti-no, beaten-is, survives-kind, survives-new, survives-beaten, survives-yes, flagging-start, flagging-next, marked-end)
+pub ruleset laws = (tests, firsts, somes, header-in, header-of, kept-yes, kept-no, beats-yes, beats-uid, beats-no, anti-yes, anti-no, survives-kind, survives-new, survives-beaten, survives-yes, flagging-start, flagging-next, marked-end)
 
-pub ruleset marks = (counts, headers-of, all-headers, slot-marked, slot-below, header-below, below-of, below-marked, flag-hit, flag-miss, count-is)
+pub ruleset marks = (counts, headers-of, all-headers, slot-marked, flag-hit, flag-miss, count-is)

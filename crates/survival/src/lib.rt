@@ -3,7 +3,8 @@ use image::header::Header;
 ghost use mathlib.Core.Path.{_≡_};
 ghost use Rattle.image.specs.Layout.{HeaderFits, header};
 ghost use Rattle.survival.specs.Survivors.{kept, beats, beaten, survives, keptAnti, survivorCount};
-ghost use Rattle.survival.specs.Code.{Headers, HeaderOf, Marked};
+ghost use Rattle.survival.specs.Code.{Headers, Marked};
+ghost use Rattle.survival.specs.Uids.{Unlinked, Chained, ChainedAt};
 
 pub fn kept(h: Header, c: u32) -> bool
     ensures { λ r. ⌜ r ≡ kept c h ⌝ }
@@ -28,28 +29,46 @@ fn beats_at(img: &[u32], n: usize, c: u32, h: Header, t: usize) -> bool
     }
 }
 
-fn beaten(img: &[u32], n: usize, c: u32, h: Header) -> bool
-    requires { ⌜ Headers (now img) n ⌝ }
+// The slots by their uids, each linked to the next one below of the same spot.
+pub fn link_uids(img: &[u32], heads: &mut [u32], below: &mut [u32], n: usize)
+    requires { ⌜ Unlinked (now img) n (now heads) (now below) ⌝ }
+    ensures { λ _. ⌜ Chained (now (img .entry)) n (now (heads .exit)) (now (below .exit)) ⌝ }
+{
+    let mut s = 0;
+    while s < n {
+        let h = image::header::header_at(img, n, s);
+        chains::link(heads, below, n, s, h.uid);
+        s += 1;
+    }
+}
+
+// Only the chain of its uid can hold a header that beats it.
+fn beaten(img: &[u32], heads: &[u32], below: &[u32], n: usize, c: u32, h: Header) -> bool
+    requires { ⌜ Chained (now img) n (now heads) (now below) ⌝ }
     ensures { λ r. ⌜ r ≡ beaten c (header (now (img .entry))) n h ⌝ }
 {
-    let mut t = 0;
-    while t < n {
-        if beats_at(img, n, c, h, t) {
+    let mut k = chains::head(heads, n, h.uid);
+    while k != 0 {
+        if beats_at(img, n, c, h, k - 1) {
             return true;
         }
-        t += 1;
+        k = image::shape::wide(below[k - 1]);
     }
     false
 }
 
-fn survives(img: &[u32], n: usize, c: u32, s: usize) -> bool
-    requires { ⌜ HeaderOf (now img) n s ⌝ }
+fn survives(img: &[u32], heads: &[u32], below: &[u32], n: usize, c: u32, s: usize) -> bool
+    requires { ⌜ ChainedAt (now img) n s (now heads) (now below) ⌝ }
     ensures { λ r. ⌜ r ≡ survives c (header (now (img .entry))) n s ⌝ }
 {
     let h = image::header::header_at(img, n, s);
     if image::header::payload(h.kind) {
         if kept(h, c) {
-            if beaten(img, n, c, h) { false } else { true }
+            if beaten(img, heads, below, n, c, h) {
+                false
+            } else {
+                true
+            }
         } else {
             false
         }
@@ -58,19 +77,42 @@ fn survives(img: &[u32], n: usize, c: u32, s: usize) -> bool
     }
 }
 
-// Each slot's survival, worked out once: the flags are what later passes look at.
-pub fn survivors(img: &[u32], n: usize) -> [bool; 1024]
-    requires { ⌜ Headers (now img) n ⌝ }
+fn survivors_chained(img: &[u32], heads: &[u32], below: &[u32], n: usize) -> [bool; 1024]
+    requires { ⌜ Chained (now img) n (now heads) (now below) ⌝ }
     ensures { λ r. ⌜ Marked (now (img .entry)) n r ⌝ }
 {
     let c = image::shape::clock(img);
     let mut flags = [false; 1024];
     let mut s = 0;
     while s < n {
-        flags[s] = survives(img, n, c, s);
+        flags[s] = survives(img, heads, below, n, c, s);
         s += 1;
     }
     flags
+}
+
+fn survivors_in(img: &[u32], heads: &mut [u32], below: &mut [u32], n: usize) -> [bool; 1024]
+    requires { ⌜ Unlinked (now img) n (now heads) (now below) ⌝ }
+    ensures { λ r. ⌜ Marked (now (img .entry)) n r ⌝ }
+{
+    link_uids(img, heads, below, n);
+    survivors_chained(img, heads, below, n)
+}
+
+// Each slot's survival, worked out once: the flags are what later passes look at.
+pub fn survivors(img: &[u32], n: usize) -> [bool; 1024]
+    requires { ⌜ Headers (now img) n ⌝ }
+    ensures { λ r. ⌜ Marked (now (img .entry)) n r ⌝ }
+{
+    if n <= 64 {
+        let mut heads = [0u32; 64];
+        let mut below = [0u32; 64];
+        survivors_in(img, &mut heads, &mut below, n)
+    } else {
+        let mut heads = [0u32; 1024];
+        let mut below = [0u32; 1024];
+        survivors_in(img, &mut heads, &mut below, n)
+    }
 }
 
 // How many flags are set.
