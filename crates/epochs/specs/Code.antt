@@ -1,7 +1,8 @@
 -- What the proofs of the steps of advance cite.
 use Prim.Native.Nat.{ℕ, zero, suc, _+_, _-_, _≤_, _<_}
 use mathlib.Core.Path.{_≡_, refl, sym, _∙_}
-use mathlib.Core.Bool.{Bool, true, false, not, _&&_, _||_}
+use mathlib.Core.Bool.{Bool, true, false, not, cond, _&&_, _||_}
+use mathlib.Core.Logic.{⊎-elim}
 use mathlib.Core.List.{List}
 use lib.ListN.{length}
 use lib.Dec.{leb, eqb}
@@ -10,12 +11,12 @@ use mir.Syntax.{w32}
 use borrow.Author.Tests.{lt-ltb, le-ltb, le-leb, lt-leb, eq-eqb, ne-eqb, leb-true}
 use native.Mathlib.Numerals.{add-one}
 use native.Mathlib.Omega.{arith}
-use Rattle.search.specs.Bools.{and-left}
+use Rattle.search.specs.Bools.{cases, and-left}
 use Rattle.search.specs.First.{firstOf, Sought, sought-start, sought-next, found-hit, found-end, found-first}
 use Rattle.search.specs.declared.Found.{Found}
 use Rattle.search.specs.declared.Found.the-variants.{At, Nothing}
 use Rattle.image.specs.declared.header.Header.{Header}
-use Rattle.image.specs.Layout.{payloadKind, header, contents, freeHeader, setHeader, setContents, setClock, Sized, Slots, HeaderFits}
+use Rattle.image.specs.Layout.{payloadKind, kindAt, header, contents, freeHeader, setHeader, setContents, setClock, Sized, Slots, HeaderFits}
 use Rattle.image.specs.Code.{slot, header-fits}
 use Rattle.transient.specs.Layout.{retiredIn, isWaiting, setRetired, emptied, Notes, NoteOf}
 use Rattle.table.specs.Code.{Table, TableSlot, slot-header, slot-note}
@@ -49,6 +50,12 @@ module _ {q : ℕ → Bool} {n p s : ℕ} {r : Bool} (z : From q n p s) (h : s <
   pub from-hit : r ≡ true → At s ≡ firstOf (λ k. leb p k && q k) n
   from-hit t = found-hit (z .sought) h at-or-above t
 
+-- two slots that fail
+pub from-two : {q : ℕ → Bool} {n p s : ℕ} {r r′ : Bool} → From q n p s → s + 1 < n → r ≡ q s → r ≡ false → r′ ≡ q (s + 1) → r′ ≡ false → From q n p (s + 2)
+from-two {q} {n} {p} {s} z h e f e′ f′ =
+    let two : s + 1 + 1 ≡ s + 2 = omega arith in
+    rw two at (from-next (from-next z (omega arith) e f) h e′ f′)
+
 pub from-end : {q : ℕ → Bool} {n p s : ℕ} → From q n p s → n ≤ s → Nothing ≡ firstOf (λ k. leb p k && q k) n
 from-end z h = found-end (z .sought) h
 
@@ -64,27 +71,40 @@ pub retired-due : (r c : ℕ) {a b : ℕ} → (r ≡ 0 → ⊥) → a ≡ r → 
 unfolding retiredDue
 retired-due r c h p q = rw (ne-eqb r 0 h, p, q)
 
-delete-no-payload : payloadKind 3 ≡ false
-unfolding payloadKind
-delete-no-payload = refl
+-- a payload retired two epochs ago
+unfoldable pub payloadDue : List ℕ → List ℕ → ℕ → ℕ → ℕ → Bool
+payloadDue wk tr t c s = payloadKind (header wk s .kind) && retiredDue (retiredIn tr t s) c
 
-or-none : (a : Bool) → a ≡ a || false
-or-none true = refl
-or-none false = refl
+and-none : (a : Bool) → false ≡ a && false
+and-none true = refl
+and-none false = refl
 
-module _ (wk tr : List ℕ) (t c s : ℕ) {h : Header} (at : h ≡ header wk s) where
-  pub due-delete : {a b : ℕ} → h .kind ≡ 3 → a ≡ h .epoch → b ≡ c → eqb (a + 3) b ≡ due wk tr t c s
-  unfolding due
-  due-delete k p q = rw (← at, k, delete-no-payload, p, q)
+and-sure : (a : Bool) → a ≡ a && true
+and-sure true = refl
+and-sure false = refl
 
-  module _ {p : Bool} (k : h .kind ≡ 3 → ⊥) (pl : p ≡ payloadKind (h .kind)) where
-    pub due-other : p ≡ false → false ≡ due wk tr t c s
-    unfolding due
-    due-other e = rw (← at, ne-eqb (h .kind) 3 k, ← pl, e)
+module _ (wk tr : List ℕ) (t c s : ℕ) {r : ℕ} {d : Bool} (re : r ≡ retiredIn tr t s) (de : d ≡ retiredDue r c) where
+  pub payload-young : d ≡ false → false ≡ payloadDue wk tr t c s
+  unfolding payloadDue
+  payload-young e = rw (← re, ← de, e) (and-none (payloadKind (header wk s .kind)))
 
-    pub due-retired : {r : ℕ} {d : Bool} → p ≡ true → r ≡ retiredIn tr t s → d ≡ retiredDue r c → d ≡ due wk tr t c s
-    unfolding due retiredDue
-    due-retired {r} e re d = rw (← at, ne-eqb (h .kind) 3 k, ← pl, e, ← re, ← or-none (not (eqb r 0) && eqb (r + 2) c)) d
+  pub payload-kind : {k : ℕ} {p : Bool} → d ≡ true → k ≡ kindAt wk s → p ≡ payloadKind k → p ≡ payloadDue wk tr t c s
+  unfolding payloadDue header
+  payload-kind {k} e ke pe = rw (← re, ← de, e, ← ke, ← and-sure (payloadKind k)) pe
+
+module _ (wk tr : List ℕ) (t c s : ℕ) {q : Bool} (qe : q ≡ payloadDue wk tr t c s) where
+  pub due-payload : q ≡ true → true ≡ due wk tr t c s
+  unfolding due payloadDue retiredDue
+  due-payload e = rw (← qe, e)
+
+  module _ {h : Header} (e : q ≡ false) (at : h ≡ header wk s) where
+    pub due-delete : {a b : ℕ} → h .kind ≡ 3 → a ≡ h .epoch → b ≡ c → eqb (a + 3) b ≡ due wk tr t c s
+    unfolding due payloadDue retiredDue
+    due-delete k x y = rw (← qe, e, ← at, k, x, y)
+
+    pub due-other : (h .kind ≡ 3 → ⊥) → false ≡ due wk tr t c s
+    unfolding due payloadDue retiredDue
+    due-other k = rw (← qe, e, ← at, ne-eqb (h .kind) 3 k)
 
 pub record Walking (wk tr : List ℕ) (n w t p : ℕ) : Type 0 where
   pub table : Table wk tr n w t
@@ -120,6 +140,9 @@ pub record Waiting (tr : List ℕ) (n t c p : ℕ) : Type 0 where
 pub waiting-start : {tr : List ℕ} {n t c p : ℕ} → Waiting tr n t c p → From (isWaiting tr n t (c - 1)) n p p
 waiting-start {tr} {n} {t} {c} {p} z = from-start (isWaiting tr n t (c - 1)) n p (z .from)
 
+pub waiting-few : {tr : List ℕ} {n t c p : ℕ} → Waiting tr n t c p → n ≤ 1024
+waiting-few z = z .notes .slots-hi
+
 pub waiting-note : {tr : List ℕ} {n t c p s : ℕ} → Waiting tr n t c p → s < n → NoteOf tr n t s
 waiting-note z h = record { notes = z .notes; within = h }
 
@@ -131,6 +154,19 @@ module _ (tr : List ℕ) (n t c p : ℕ) {s : ℕ} (z : From (isWaiting tr n t (
   pub waiting-end : n ≤ s → Nothing ≡ waitingFrom tr n t c p
   unfolding waitingFrom
   waiting-end h = from-end z h
+
+  module _ {r : Bool} (e : r ≡ isWaiting tr n t (c - 1) s) where
+    -- the first of two, the second of two, and neither the last
+    pub waiting-first : s + 1 < n → r ≡ true → At s ≡ waitingFrom tr n t c p
+    waiting-first h f = waiting-hit (omega arith) e f
+
+    pub waiting-second : {r′ : Bool} → s + 1 < n → r ≡ false → r′ ≡ isWaiting tr n t (c - 1) (s + 1) → r′ ≡ true → At (s + 1) ≡ waitingFrom tr n t c p
+    unfolding waitingFrom
+    waiting-second h f e′ f′ = from-hit (from-next z (omega arith) e f) h e′ f′
+
+    pub waiting-last : s < n → n ≤ s + 1 → r ≡ false → Nothing ≡ waitingFrom tr n t c p
+    unfolding waitingFrom
+    waiting-last h l f = from-end (from-next z h e f) l
 
 -- what a slot found is
 pub record Between (n p s : ℕ) : Type 0 where
@@ -288,11 +324,27 @@ pub headed-done : (wk l tr : List ℕ) (n s : ℕ) {l′ : List ℕ} {p : Place}
 unfolding headed
 headed-done wk l tr n s e p = rw (e, p)
 
-module _ (wk l tr : List ℕ) (n w t c : ℕ) (p : Place) {x : Stepped} where
-  pub step-reclaim : p .phase ≡ 1 → x ≡ reclaimFrom wk l tr n w t c (p .slot) → x ≡ step wk l tr n w t c p
-  unfolding step
-  step-reclaim a e = rw (eq-eqb (p .phase) 1 a) e
+-- where reclaiming goes on, or begins
+unfoldable pub reclaimAt : ℕ → ℕ → ℕ
+reclaimAt phase slot = cond (eqb phase 1) slot 0
 
+pub reclaim-on : (phase slot : ℕ) → phase ≡ 1 → slot ≡ reclaimAt phase slot
+unfolding reclaimAt
+reclaim-on phase slot h = rw (eq-eqb phase 1 h)
+
+pub reclaim-first : (phase slot : ℕ) → (phase ≡ 1 → ⊥) → 0 ≡ reclaimAt phase slot
+unfolding reclaimAt
+reclaim-first phase slot h = rw (ne-eqb phase 1 h)
+
+pub going-reclaim : {wk l tr : List ℕ} {n w t c s a : ℕ} (phase : ℕ) → Going wk l tr n w t c s → a ≡ reclaimAt phase s → Going wk l tr n w t c a
+unfolding reclaimAt
+going-reclaim {s = s} phase z e =
+    ⊎-elim
+    (λ (y : eqb phase 1 ≡ true). let f = rw y at e in rw f z)
+    (λ (y : eqb phase 1 ≡ false). let f = rw y at e in rw f (going-first z))
+    (cases (eqb phase 1))
+
+module _ (wk l tr : List ℕ) (n w t c : ℕ) (p : Place) {x : Stepped} where
   pub step-flush : p .phase ≡ 2 → x ≡ flushFrom wk l tr n w t c (p .slot) → x ≡ step wk l tr n w t c p
   unfolding step
   step-flush a e = rw a e
@@ -305,16 +357,21 @@ module _ (wk l tr : List ℕ) (n w t c : ℕ) (p : Place) {x : Stepped} where
   unfolding step
   step-tick a e = rw a e
 
-  pub step-begin : (p .phase ≡ 1 → ⊥) → (p .phase ≡ 2 → ⊥) → (p .phase ≡ 3 → ⊥) → (p .phase ≡ 4 → ⊥) → x ≡ reclaimFrom wk l tr n w t c 0 → x ≡ step wk l tr n w t c p
-  unfolding step
-  step-begin a b d f e = rw (ne-eqb (p .phase) 1 a, ne-eqb (p .phase) 2 b, ne-eqb (p .phase) 3 d, ne-eqb (p .phase) 4 f) e
+  pub step-begin : {a : ℕ} → (p .phase ≡ 2 → ⊥) → (p .phase ≡ 3 → ⊥) → (p .phase ≡ 4 → ⊥) → a ≡ reclaimAt (p .phase) (p .slot) → x ≡ reclaimFrom wk l tr n w t c a
+      → x ≡ step wk l tr n w t c p
+  unfolding step reclaimAt
+  step-begin b d f g e =
+      ⊎-elim
+      (λ (y : eqb (p .phase) 1 ≡ true). let h = rw y at g in rw y (rw h at e))
+      (λ (y : eqb (p .phase) 1 ≡ false). let h = rw y at g in rw (y, ne-eqb (p .phase) 2 b, ne-eqb (p .phase) 3 d, ne-eqb (p .phase) 4 f) (rw h at e))
+      (cases (eqb (p .phase) 1))
 
-pub ruleset dues = (from-next, retired-none, retired-due, due-delete, due-other, due-retired, walking-start, walking-slot, slot-head, slot-retired, due-hit, due-end)
+pub ruleset dues = (from-next, retired-none, retired-due, payload-young, payload-kind, due-payload, due-delete, due-other, walking-start, walking-slot, slot-head, slot-retired, due-hit, due-end)
 
-pub ruleset waits = (from-next, waiting-start, waiting-note, waiting-hit, waiting-end)
+pub ruleset waits = (from-next, from-two, waiting-start, waiting-few, waiting-note, waiting-hit, waiting-first, waiting-second, waiting-last, waiting-end)
 
 pub ruleset lines = (both-working, both-persistent, both-slots, contents-written, header-written, freed-both, passing-on, passing-over)
 
 pub ruleset steps = (going-both, going-note, going-next, going-advancing, going-walking, going-waiting, going-first, going-due, going-wait, advancing-working, advancing-persistent, advancing-notes, advancing-next, reclaim-done, tick-done, flush-line, flush-tick, reclaim-one, reclaim-none, headed-done)
 
-pub ruleset stepping = (going-both, going-advancing, going-first, step-reclaim, step-flush, step-header, step-tick, step-begin)
+pub ruleset stepping = (going-both, going-advancing, going-reclaim, reclaim-on, reclaim-first, step-flush, step-header, step-tick, step-begin)

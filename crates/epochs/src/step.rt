@@ -4,7 +4,7 @@ use search::Found;
 ghost use mathlib.Core.Path.{_≡_};
 ghost use Prim.Native.Nat.{_<_};
 ghost use Rattle.epochs.specs.Advance.{stepped, passing, reclaimed, ticking, flushFrom, reclaimFrom, step};
-ghost use Rattle.epochs.specs.Code.{Advancing, Going, headed, replyOf};
+ghost use Rattle.epochs.specs.Code.{Advancing, Going, headed, reclaimAt, replyOf};
 
 // Whether a step ticked, and the place that comes after it.
 pub struct Moved {
@@ -148,6 +148,16 @@ fn flush_header(
     }
 }
 
+// Where reclaiming goes on, or begins.
+fn reclaim_at(phase: u32, slot: usize) -> usize
+    ensures { λ r. ⌜ r ≡ reclaimAt phase slot ⌝ }
+{
+    if phase == Place::RECLAIM {
+        return slot;
+    }
+    0
+}
+
 // From a place on; where none is underway an advance begins.
 pub fn step(
     working: &mut [u32],
@@ -165,10 +175,12 @@ pub fn step(
     let at = place.slot;
     let phase = place.phase;
     match phase {
-        1 => reclaim_from(working, persistent, transient, n, w, t, c, at),
         2 => flush_from(working, persistent, transient, n, w, t, c, at),
         3 => flush_header(working, persistent, transient, n, w, t, c, at),
         4 => tick(working, persistent, transient, n, w, t, c),
-        _ => reclaim_from(working, persistent, transient, n, w, t, c, 0),
+        _ => {
+            let from = reclaim_at(phase, at);
+            reclaim_from(working, persistent, transient, n, w, t, c, from)
+        }
     }
 }

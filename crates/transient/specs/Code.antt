@@ -1,5 +1,5 @@
 -- What the proofs of this crate's functions cite.
-use Prim.Native.Nat.{ℕ, _+_, _*_, _-_, _%_, _≤_, _<_}
+use Prim.Native.Nat.{ℕ, _+_, _*_, _-_, _%_, _^_, _≤_, _<_}
 use mathlib.Core.Path.{_≡_, refl, sym, ap, _∙_}
 use mathlib.Core.Bool.{Bool, true, false, not, _&&_, _||_}
 use mathlib.Core.List.{List}
@@ -8,8 +8,8 @@ use lib.ListN.{length, getD, set, replicate, getD-replicate}
 use lib.Dec.{leb, ltb, eqb}
 use borrow.Author.Tests.{lt-ltb, le-ltb, le-leb, lt-leb, eq-eqb, ne-eqb, ltb-true, ltb-false, leb-true, eqb-true, not-false}
 use native.Mathlib.Omega.{arith}
-use Rattle.search.specs.Bools.{cases, and-left, and-right, tests}
-use Rattle.search.specs.Some.{every, loops as everies}
+use Rattle.search.specs.Bools.{cases, refuted, same-test, and-left, and-right, tests}
+use Rattle.search.specs.Some.{every, Held, held-next, loops as everies}
 use Rattle.reply.specs.declared.Check.{Check}
 use Rattle.reply.specs.declared.Check.the-variants.{Accepted, Refused}
 use Rattle.reply.specs.declared.Refusal.{Refusal}
@@ -22,18 +22,23 @@ use Rattle.transient.specs.Layout.{threadsOf, threadsOk, blank, lastTake
 use Rattle.transient.specs.Laws.{base-top}
 use Rattle.transient.specs.Entry.{imagesFit, uidOk, notesFit, sizesFit, openOk, opensOk, clocksFit, threads, entryCheck}
 
-pub threads-few : (len n : ℕ) → len < 4 + 3 * n + 1 → false ≡ threadsOk len n
+-- a length too small wraps to a number that is too large
+pub threads-wrap : (len n : ℕ) {d : ℕ} → n ≤ 1024 → d < 2 ^ 64 → (d + (4 + 3 * n + 1)) % 2 ^ 64 ≡ len → ltb d 16 ≡ threadsOk len n
 unfolding threadsOk
-threads-few len n h = rw (lt-leb 1 (threadsOf len n) (omega arith))
-
-pub threads-rest : (len n : ℕ) → 4 + 3 * n + 1 ≤ len → ltb (len - (4 + 3 * n + 1)) 16 ≡ threadsOk len n
-unfolding threadsOk
-threads-rest len n h =
-    rw (le-leb 1 (threadsOf len n) (omega arith))
-    (⊎-elim
-    (λ (t : ltb (len - (4 + 3 * n + 1)) 16 ≡ true). t ∙ sym (le-leb (threadsOf len n) 16 (omega (arith, ltb-true (len - (4 + 3 * n + 1)) 16 t))))
-    (λ (f : ltb (len - (4 + 3 * n + 1)) 16 ≡ false). f ∙ sym (lt-leb (threadsOf len n) 16 (omega (arith, ltb-false (len - (4 + 3 * n + 1)) 16 f))))
-    (cases (ltb (len - (4 + 3 * n + 1)) 16)))
+threads-wrap len n {d} h f e =
+    ⊎-elim
+    (λ (t : ltb d 16 ≡ true).
+    let k = ltb-true d 16 t in
+    rw (t, le-leb 1 (threadsOf len n) (omega arith), le-leb (threadsOf len n) 16 (omega arith)))
+    (λ (t : ltb d 16 ≡ false).
+    let k = ltb-false d 16 t in
+    ⊎-elim
+    (λ (u : leb 1 (threadsOf len n) ≡ true).
+    let v = leb-true 1 (threadsOf len n) u in
+    rw (t, u, lt-leb (threadsOf len n) 16 (omega arith)))
+    (λ (u : leb 1 (threadsOf len n) ≡ false). rw (t, u))
+    (cases (leb 1 (threadsOf len n))))
+    (cases (ltb d 16))
 
 pub blank-set : (l : List ℕ) {z : List ℕ} (last uid : ℕ) → z ≡ replicate (length l) 0 → set (set z 0 last) 1 uid ≡ blank (length l) last uid
 unfolding blank
@@ -106,32 +111,69 @@ list-emptied tr n t e z h =
 
 pub ruleset emptying = (emptying-start, emptying-next, emptying-end, list-room, list-emptied)
 
-pub ruleset laws = (tests, waiting-is, place-stored, threads-few, threads-rest, blank-set, based-even, based-odd, last-stored, uid-stored, open-stored, retired-stored, waiting-stored)
+pub ruleset laws = (tests, waiting-is, place-stored, threads-wrap, blank-set, based-even, based-odd, last-stored, uid-stored, open-stored, retired-stored, waiting-stored)
 
 -- ---- refusal 1
-pub shape-second : (l : List ℕ) {s : Bool} → s ≡ shapeOk l → s ≡ true → 1 < length l
-shape-second l e t = let z = shaped l (sym e ∙ t) in omega arith
+-- two images whose sizes can be read
+pub record Paired (wk l : List ℕ) : Type 0 where
+  pub working : 3 ≤ length wk
+  pub persistent : 3 ≤ length l
 
-pub shape-in : (l : List ℕ) (j : ℕ) {s : Bool} → s ≡ shapeOk l → s ≡ true → j < 3 → j < length l
-shape-in l j e t h = let z = shaped l (sym e ∙ t) in omega arith
+unfoldable pub sizesAlike : List ℕ → List ℕ → Bool
+sizesAlike wk l = eqb (slotsOf l) (slotsOf wk) && eqb (widthOf l) (widthOf wk)
+
+module _ (wk l : List ℕ) where
+  pub alike-slots : (slotsOf l ≡ slotsOf wk → ⊥) → false ≡ sizesAlike wk l
+  unfolding sizesAlike
+  alike-slots d = rw (ne-eqb (slotsOf l) (slotsOf wk) d)
+
+  pub alike-width : slotsOf l ≡ slotsOf wk → eqb (widthOf l) (widthOf wk) ≡ sizesAlike wk l
+  unfolding sizesAlike
+  alike-width d = rw (eq-eqb (slotsOf l) (slotsOf wk) d)
+
+-- images that fit are of one length, and where they are it is enough to judge the shape of one
+fit-length : (wk l : List ℕ) → imagesFit wk l ≡ true → length l ≡ length wk
+unfolding imagesFit
+fit-length wk l t =
+    let rest = and-right (shapeOk wk) _ t in
+    let same = and-right (shapeOk l) _ rest in
+    let a : slotsOf l ≡ slotsOf wk = eqb-true _ _ (and-left (eqb (slotsOf l) (slotsOf wk)) _ same) in
+    let b : widthOf l ≡ widthOf wk = eqb-true _ _ (and-right (eqb (slotsOf l) (slotsOf wk)) _ same) in
+    let z = shaped wk (and-left (shapeOk wk) _ t) in
+    let y = shaped l (and-left (shapeOk l) _ rest) in
+    rw (a, b) at (y .long) ∙ sym (z .long)
+
+shape-same : (wk l : List ℕ) → shapeOk wk ≡ true → length l ≡ length wk → sizesAlike wk l ≡ true → shapeOk l ≡ true
+unfolding shapeOk sizesAlike
+shape-same wk l t e h =
+    let a : slotsOf l ≡ slotsOf wk = eqb-true _ _ (and-left (eqb (slotsOf l) (slotsOf wk)) _ h) in
+    let b : widthOf l ≡ widthOf wk = eqb-true _ _ (and-right (eqb (slotsOf l) (slotsOf wk)) _ h) in
+    rw (e, a, b) t
+
+alike-fit : (wk l : List ℕ) → shapeOk wk ≡ true → shapeOk l ≡ true → sizesAlike wk l ≡ true → imagesFit wk l ≡ true
+unfolding imagesFit sizesAlike
+alike-fit wk l t p h = rw (t, p) h
+
+fit-alike : (wk l : List ℕ) → imagesFit wk l ≡ true → sizesAlike wk l ≡ true
+unfolding imagesFit sizesAlike
+fit-alike wk l h = and-right (shapeOk l) _ (and-right (shapeOk wk) _ h)
 
 module _ (wk l : List ℕ) {s : Bool} (sh : s ≡ shapeOk wk) where
   pub images-working : s ≡ false → false ≡ imagesFit wk l
   unfolding imagesFit
   images-working e = rw (← sh, e)
 
-  module _ {p : Bool} (st : s ≡ true) (ps : p ≡ shapeOk l) where
-    pub images-persistent : p ≡ false → false ≡ imagesFit wk l
-    unfolding imagesFit
-    images-persistent e = rw (← sh, st, ← ps, e)
+  pub images-length : s ≡ true → (length l ≡ length wk → ⊥) → false ≡ imagesFit wk l
+  images-length st d = sym (refuted (imagesFit wk l) (λ t. d (fit-length wk l t)))
 
-    pub images-slots : p ≡ true → (slotsOf l ≡ slotsOf wk → ⊥) → false ≡ imagesFit wk l
-    unfolding imagesFit
-    images-slots e d = rw (← sh, st, ← ps, e, ne-eqb (slotsOf l) (slotsOf wk) d)
+  module _ (st : s ≡ true) (long : length l ≡ length wk) where
+    pub images-paired : Paired wk l
+    images-paired = let z = shaped wk (sym sh ∙ st) in record { working = omega arith; persistent = omega arith }
 
-    pub images-width : p ≡ true → slotsOf l ≡ slotsOf wk → eqb (widthOf l) (widthOf wk) ≡ imagesFit wk l
-    unfolding imagesFit
-    images-width e d = rw (← sh, st, ← ps, e, eq-eqb (slotsOf l) (slotsOf wk) d)
+    pub images-alike : {r : Bool} → r ≡ sizesAlike wk l → r ≡ imagesFit wk l
+    images-alike e =
+        let t : shapeOk wk ≡ true = sym sh ∙ st in
+        e ∙ same-test (sizesAlike wk l) (imagesFit wk l) (λ h. alike-fit wk l t (shape-same wk l t long h) h) (λ h. fit-alike wk l h)
 
 module _ (tr : List ℕ) (n : ℕ) {a : ℕ} (la : a ≡ lastTaken tr) where
   pub notes-last : n ≤ a → false ≡ notesFit tr n
@@ -201,6 +243,10 @@ module _ (c e : ℕ) where
   pub open-before : {a b : ℕ} → (e ≡ 0 → ⊥) → (e ≡ c → ⊥) → a ≡ e → b ≡ c → eqb (a + 1) b ≡ openOk c e
   unfolding openOk
   open-before h k p q = rw (ne-eqb e 0 h, ne-eqb e c k, p, q)
+
+-- a loop passes over what is known to pass
+pub held-sure : {p : ℕ → Bool} {n i : ℕ} → Held p n i → i < n → true ≡ p i → Held p n (i + 1)
+held-sure z h e = held-next z h e refl
 
 pub opens-is : (tr : List ℕ) (t c : ℕ) {r : Bool} → r ≡ every (λ thread. openOk c (openEpoch tr thread)) t → r ≡ opensOk tr t c
 unfolding opensOk
@@ -289,4 +335,4 @@ module _ (wk l tr : List ℕ) {s : Bool} (sf : s ≡ sizesFit wk l tr) where
           unfolding entryCheck
           entry-fine e = let q : clocksFit wk l tr (threads (store wk l tr)) ≡ true = rw (ts, at) at (sym ck ∙ e) in rw (← sf, st, q)
 
-pub ruleset entries = (everies, shape-in, shape-second, images-working, images-persistent, images-slots, images-width, notes-last, notes-place, notes-uid, sizes-images, images-in, images-slots-hi, sizes-threads, sizes-notes, threads-room, fitting-threads, open-none, open-now, open-before, opens-is, clocks-bad, clocks-differ, clocks-opens, entry-sizes, entry-in, entry-room, entry-fitting, entry-clock, entry-fine)
+pub ruleset entries = (everies, alike-slots, alike-width, images-working, images-length, images-paired, images-alike, notes-last, notes-place, notes-uid, sizes-images, images-in, images-slots-hi, sizes-threads, sizes-notes, threads-room, fitting-threads, open-none, open-now, open-before, held-sure, opens-is, clocks-bad, clocks-differ, clocks-opens, entry-sizes, entry-in, entry-room, entry-fitting, entry-clock, entry-fine)

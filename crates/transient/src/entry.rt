@@ -6,20 +6,28 @@ ghost use Prim.Native.Nat.{_≤_};
 ghost use lib.ListN.{length};
 ghost use Rattle.transient.specs.Store.{store};
 ghost use Rattle.transient.specs.Entry.{imagesFit, uidOk, notesFit, sizesFit, openOk, opensOk, clocksFit, entryCheck};
-ghost use Rattle.transient.specs.Code.{Threads, Fitting};
+ghost use Rattle.transient.specs.Code.{Paired, sizesAlike, Threads, Fitting};
 
+// Do two images say the same sizes?
+fn alike(working: &[u32], persistent: &[u32]) -> bool
+    requires { ⌜ Paired (now working) (now persistent) ⌝ }
+    ensures { λ r. ⌜ r ≡ sizesAlike (now (working .entry)) (now (persistent .entry)) ⌝ }
+{
+    if persistent[0] != working[0] {
+        return false;
+    }
+    persistent[1] == working[1]
+}
+
+// The shape of one image is judged; the other is as long and says the same sizes, so it has that shape too.
 fn images_fit(working: &[u32], persistent: &[u32]) -> bool
     ensures { λ r. ⌜ r ≡ imagesFit (now (working .entry)) (now (persistent .entry)) ⌝ }
 {
     if image::shape::shape_ok(working) {
-        if image::shape::shape_ok(persistent) {
-            if persistent[0] != working[0] {
-                return false;
-            }
-            persistent[1] == working[1]
-        } else {
-            false
+        if persistent.len() != working.len() {
+            return false;
         }
+        alike(working, persistent)
     } else {
         false
     }
@@ -80,7 +88,12 @@ fn opens_ok(transient: &[u32], t: usize, c: u32) -> bool
 {
     let mut thread = 0;
     while thread < t {
-        if open_ok(c, transient[4 + thread]) {
+        let e = transient[4 + thread];
+        if e == 0 {
+            thread += 1;
+            continue;
+        }
+        if open_ok(c, e) {
             thread += 1;
         } else {
             return false;

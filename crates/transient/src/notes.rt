@@ -12,10 +12,7 @@ pub fn threads_ok(len: usize, n: usize) -> bool
     ensures { λ r. ⌜ r ≡ threadsOk len n ⌝ }
 {
     let least = 4 + 3 * n + 1;
-    if len < least {
-        return false;
-    }
-    len - least < 16
+    std::num::wrapping_sub_usize(len, least) < 16
 }
 
 // How many threads a slice of this length has, for `n` slots.

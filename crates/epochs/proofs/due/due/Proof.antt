@@ -9,12 +9,10 @@ due-spec =
     tie.close
     (tie.spec
     (λ c κs. search (needs, dues))
-    (λ c κs. search (needs, dues))
-    (λ c. search (needs, dues))
-    (λ c κs. search (needs, dues))
     (λ c. search (needs, dues))
     (λ c κs. search (needs, dues))
     (λ c κs. search (needs, dues))
+    (λ c. search (needs, dues))
     (λ c κs. search (needs, dues))
     (λ c. search (needs, dues))
     (λ c. search (needs, dues)))

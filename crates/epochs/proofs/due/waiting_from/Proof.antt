@@ -1,4 +1,4 @@
--- `waiting_from`: a search from p on (`From`).
+-- `waiting_from`: a search from p on (`From`), two slots in a round.
 use borrow.Author.Needs.{needs}
 use Rattle.transient.specs.Layout.{isWaiting}
 use Rattle.epochs.specs.Code.{From, waits}
@@ -20,9 +20,19 @@ waiting-from-spec =
     μ-loop
     (λ c. search (needs, waits))
     (λ c. search (needs, waits))
+    (λ c. search (needs, waits))
     (λ c κs. search (needs, waits))
     (λ c. search (needs, waits))
     (λ c. search (needs, waits))
     (λ c. search (needs, waits))
+    (λ c κs. search (needs, waits))
+    (λ c. search (needs, waits))
+    (λ c. search (needs, waits))
+    (λ c. search (needs, waits))
+    (λ c. search (needs, waits))
+    (λ c. search (needs, waits))
+    (λ c. search (needs, waits))
+    (λ c. search (needs, waits))
+    (λ c κs. search (needs, waits))
     (λ c. search (needs, waits))
     (λ c. search (needs, waits)))

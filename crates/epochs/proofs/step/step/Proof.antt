@@ -28,8 +28,4 @@ step-spec =
     (λ c. search (needs, stepping))
     (λ c. search (needs, stepping))
     (λ c. search (needs, stepping))
-    (λ c. search (needs, stepping))
-    (λ c. search (needs, stepping))
-    (λ c. search (needs, stepping))
-    (λ c. search (needs, stepping))
     (λ c. search (needs, stepping)))

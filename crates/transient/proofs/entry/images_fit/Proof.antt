@@ -10,12 +10,7 @@ images-fit-spec =
     tie.close
     (tie.spec
     (λ c κs. search (needs, laws, entries))
+    (λ c. search (needs, laws, entries))
     (λ c κs. search (needs, laws, entries))
-    (λ c. search (needs, laws, entries))
-    (λ c. search (needs, laws, entries))
-    (λ c. search (needs, laws, entries))
-    (λ c. search (needs, laws, entries))
-    (λ c. search (needs, laws, entries))
-    (λ c. search (needs, laws, entries))
     (λ c. search (needs, laws, entries))
     (λ c. search (needs, laws, entries)))

@@ -11,5 +11,5 @@ threads-ok-spec =
     (λ c. search (needs, laws))
     (λ c. search (needs, laws))
     (λ c. search (needs, laws))
-    (λ c. search (needs, laws))
+    (λ c κs. search (needs, laws))
     (λ c. search (needs, laws)))
