@@ -12,8 +12,7 @@ use borrow.Author.Tests.{le-leb, lt-ltb, eq-eqb, ne-eqb, eqb-true, ltb-false, no
 use native.Mathlib.Omega.{arith}
 use Rattle.search.specs.Bools.{and-left, and-right, and-both}
 use Rattle.search.specs.Some.{some, some-none, none-some, at-every}
-use Rattle.search.specs.declared.Found.{Found}
-use Rattle.search.specs.declared.Found.the-variants.{At, Nothing}
+use Rattle.search.specs.declared.Found.the-variants.{At}
 use Rattle.reply.specs.declared.Check.{Check}
 use Rattle.reply.specs.declared.Check.the-variants.{Accepted, Refused}
 use Rattle.reply.specs.declared.Refusal.{Refusal}
@@ -28,10 +27,11 @@ use Rattle.transient.specs.Entry.{imagesFit, notesFit, sizesFit, openOk, opensO
 use Rattle.epochs.specs.declared.Place.{Place}
 use Rattle.epochs.specs.declared.Advance.the-variants.{WentOn, Ticked, Declined}
 use Rattle.epochs.specs.declared.Sync.the-variants as sync-reply
-use Rattle.epochs.specs.Advance.{Stepped, place, placeOf, reclaimed, waitingFrom, dueFrom, contentsLine, headerLine, ticking, flushing, flushFrom, reclaiming, reclaimFrom, step, underway, openBelow, advanceCheck, noted, stepping, advance}
+use Rattle.epochs.specs.Advance.{Stepped, place, placeOf, reclaimed, contentsLine, headerLine, ticking, flushing, step, underway, openBelow, advanceCheck, noted, stepping, advance}
 use Rattle.epochs.specs.Sync.{anyOpen, syncCheck, onward, syncing, judged, mostLines, Synced, sync}
 use Rattle.epochs.specs.WriteBack.{writeBackCheck, copied, written, writeBack}
 use Rattle.epochs.specs.Left.{left-top, left-low, step-goes, Moves, advance-moves}
+use Rattle.epochs.specs.Ways.{every-way}
 use Rattle.epochs.specs.Entry.{Whole, entry-whole}
 use Rattle.epochs.specs.Calls.{budget, budget-tick}
 
@@ -89,49 +89,32 @@ module _ (wk l tr : List ℕ) (n w t c : ℕ) (long : 3 ≤ length wk) (also : 3
         clocked = on refl refl (f 2 (omega arith));
       }
 
-  flush-kept : (p : ℕ) → Kept wk l tr t c (flushFrom wk l tr n w t c p)
-  unfolding flushFrom contentsLine
-  flush-kept p = go (waitingFrom tr n t c p)
-    where
-      go : (f : Found) → Kept wk l tr t c (flushing f wk l tr n w t c)
-      go (At s) = line-kept _ (place 3 s) (length-setContents l n w s _) (λ j h. front-setContents l n w s j _ (omega arith))
-      go Nothing = tick-kept
-
-  reclaim-kept : (p : ℕ) → Kept wk l tr t c (reclaimFrom wk l tr n w t c p)
-  unfolding reclaimFrom reclaimed
-  reclaim-kept p = go (dueFrom wk tr n t c p)
-    where
-      go : (f : Found) → Kept wk l tr t c (reclaiming f wk l tr n w t c)
-      go (At s) =
-          record {
-            steady = record {
-              working-long = length-setHeader wk s _;
-              working-front = λ j h. front-setHeader wk s j _ (omega arith);
-              persistent-long = length-setHeader l s _;
-              persistent-front = λ j h. front-setHeader l s j _ (omega arith);
-              notes-long = length-setRetired tr t s 0;
-              notes-front = λ j h. word-setRetired tr t s 0 j (λ q. omega arith);
-              opens = λ u h. word-setRetired tr t s 0 (4 + u) (λ q. omega arith);
-            };
-            clocked = on refl (front-setHeader wk s 2 _ (omega arith)) (front-setHeader l s 2 _ (omega arith));
-          }
-      go Nothing = flush-kept 0
+  contents-kept : (s : ℕ) → Kept wk l tr t c (flushing (At s) wk l tr n w t c)
+  unfolding contentsLine
+  contents-kept s = line-kept _ (place 3 s) (length-setContents l n w s _) (λ j h. front-setContents l n w s j _ (omega arith))
 
   head-kept : (s : ℕ) (p : Place) → Kept wk l tr t c (record { reply = WentOn; working = wk; persistent = headerLine wk l s; transient = tr; place = p })
   unfolding headerLine
   head-kept s p = line-kept _ p (length-setHeader l s _) (λ j h. front-setHeader l s j _ h)
 
-  either : (b : Bool) (x y : Stepped) → Kept wk l tr t c x → Kept wk l tr t c y → Kept wk l tr t c (cond b x y)
-  either true x y p q = p
-  either false x y p q = q
+  reclaim-kept : (s : ℕ) → Kept wk l tr t c (reclaimed wk l tr n t s)
+  unfolding reclaimed
+  reclaim-kept s =
+      record {
+        steady = record {
+          working-long = length-setHeader wk s _;
+          working-front = λ j h. front-setHeader wk s j _ (omega arith);
+          persistent-long = length-setHeader l s _;
+          persistent-front = λ j h. front-setHeader l s j _ (omega arith);
+          notes-long = length-setRetired tr t s 0;
+          notes-front = λ j h. word-setRetired tr t s 0 j (λ q. omega arith);
+          opens = λ u h. word-setRetired tr t s 0 (4 + u) (λ q. omega arith);
+        };
+        clocked = on refl (front-setHeader wk s 2 _ (omega arith)) (front-setHeader l s 2 _ (omega arith));
+      }
 
   pub step-kept : (p : Place) → Kept wk l tr t c (step wk l tr n w t c p)
-  unfolding step
-  step-kept p =
-      either (eqb (p .phase) 1) _ _ (reclaim-kept (p .slot))
-      (either (eqb (p .phase) 2) _ _ (flush-kept (p .slot))
-      (either (eqb (p .phase) 3) _ _ (head-kept (p .slot) _)
-      (either (eqb (p .phase) 4) _ _ tick-kept (reclaim-kept 0))))
+  step-kept = every-way (Kept wk l tr t c) wk l tr n w t c reclaim-kept contents-kept (λ s. head-kept s _) tick-kept
 
 -- ---- advance and write-back: a refusal changes nothing
 not-declined : {A : Type 0} {wk l : List ℕ} {c : ℕ} {z : Stepped} {r : Refusal} → Clocked wk l c z → z .reply ≡ Declined r → A
@@ -348,7 +331,7 @@ syncing-done (suc more) (suc k) lines st q e =
         rw r (b x (omega (arith, budget-tick (st .working) (st .transient) (advance st .store .working) (advance st .store .transient) k (moves .slots) (m .0) (m .1))))
 
 -- refusals 1, 2, 14 and 15 passed
-check-quiet : (st : Store) → syncCheck st ≡ Accepted → Quiet 2 st
+pub check-quiet : (st : Store) → syncCheck st ≡ Accepted → Quiet 2 st
 unfolding syncCheck anyOpen
 check-quiet st a =
     let both = both-accepted (entryCheck st) _ a in
@@ -378,3 +361,33 @@ sync-keeps st r d = go (syncCheck st) refl
     go : (k : Check) → syncCheck st ≡ k → judged k st .store ≡ st
     go (Refused q) e = refl
     go Accepted e = let f = sync-done st e .is in let z : _≡_ {A = ℕ} 0 1 = cc in absurd (omega arith)
+
+-- ---- lines that the memory writes back in the middle of a sync do not disturb it
+entry-same : (wk l l′ tr : List ℕ) → length l′ ≡ length l → ((j : ℕ) → j < 3 → getD l′ j 0 ≡ getD l j 0) → entryCheck (store wk l′ tr) ≡ entryCheck (store wk l tr)
+unfolding entryCheck sizesFit clocksFit
+entry-same wk l l′ tr a f = rw (images-same wk l wk l′ refl a (λ j h. refl) (λ j h. f j (omega arith)), f 2 (omega arith))
+
+pub quiet-back : (ticks : ℕ) (st : Store) (slot line : ℕ) → Quiet ticks st → Quiet ticks (writeBack st slot line .store)
+unfolding writeBack copied contentsLine headerLine
+quiet-back ticks st slot line q = go (writeBackCheck st slot line)
+  where
+    back : (l′ : List ℕ) → length l′ ≡ length (st .persistent) → ((j : ℕ) → j < 3 → getD l′ j 0 ≡ getD (st .persistent) j 0) → Quiet ticks (store (st .working) l′ (st .transient))
+    back l′ a f = record { entry = entry-same (st .working) (st .persistent) l′ (st .transient) a f ∙ q .entry; idle = q .idle; room = q .room }
+
+    which : (b : Bool) → Quiet ticks (store (st .working)
+        (cond b (contentsLine (st .working) (st .persistent) (slotsOf (st .working)) (widthOf (st .working)) slot) (headerLine (st .working) (st .persistent) slot)) (st .transient))
+    which true = back _ (length-setContents (st .persistent) _ _ slot _) (λ j h. front-setContents (st .persistent) _ _ slot j _ (omega arith))
+    which false = back _ (length-setHeader (st .persistent) slot _) (λ j h. front-setHeader (st .persistent) slot j _ h)
+
+    go : (k : Check) → Quiet ticks (written k st (copied st slot line) .store)
+    go (Refused r) = q
+    go Accepted = which (eqb line 0)
+
+-- working and notes stay
+pub back-same : (st : Store) (slot line : ℕ) → (writeBack st slot line .store .working ≡ st .working) × (writeBack st slot line .store .transient ≡ st .transient)
+unfolding writeBack
+back-same st slot line = go (writeBackCheck st slot line)
+  where
+    go : (k : Check) → (written k st (copied st slot line) .store .working ≡ st .working) × (written k st (copied st slot line) .store .transient ≡ st .transient)
+    go (Refused r) = (refl, refl)
+    go Accepted = (refl, refl)

@@ -1,6 +1,7 @@
 pub mod Advance
 pub mod Sync
 pub mod WriteBack
+pub mod Ways
 pub mod Code
 pub mod Entry
 pub mod Left

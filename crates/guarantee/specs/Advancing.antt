@@ -15,7 +15,7 @@ use Rattle.reply.specs.Refusals.{refuse, andThen, not-refused, both-accepted}
 use Rattle.image.specs.Layout.{slotsOf}
 use Rattle.transient.specs.Store.{Store}
 use Rattle.transient.specs.Layout.{placePhase, placeSlot, openEpoch}
-use Rattle.transient.specs.Entry.{threads, entryCheck}
+use Rattle.transient.specs.Entry.{entryCheck}
 use Rattle.changes.specs.Code.{entry-sizing}
 use Rattle.epochs.specs.Advance.{Stepped, step, placeOf, underway, openBelow, advanceCheck, stepping, advance}
 use Rattle.crash.specs.Reference.{Jobs}
@@ -23,6 +23,7 @@ use Rattle.crash.specs.Slots.{Place}
 use Rattle.guarantee.specs.Trace.{Plain, toldAdvance}
 use Rattle.guarantee.specs.View.{progress}
 use Rattle.guarantee.specs.Good.{Good}
+use Rattle.guarantee.specs.Changing.{threads-is}
 use Rattle.guarantee.specs.Stepping.{progress-one, progress-two, progress-three, progress-four, progress-none, Reached, Ready}
 use Rattle.guarantee.specs.Ticking.{Fine, tick-good}
 use Rattle.guarantee.specs.Flushing.{flush-good, head-good}
@@ -78,9 +79,6 @@ module _ {n w t : ℕ} {start : Jobs} {st : Store} {p : Plain} (g : Good n w t s
         clock-top = omega (arith, g .clock-hi);
       }
 
-  threads-is : threads st ≡ t
-  threads-is = omega (arith, g .notes .long, g .working .slots-is)
-
   -- ---- the call
   abbrev check : Check
   check = andThen (entryCheck st) (advanceCheck (st .transient) t (p .clock))
@@ -90,7 +88,7 @@ module _ {n w t : ℕ} {start : Jobs} {st : Store} {p : Plain} (g : Good n w t s
 
   pub advance-good : Good n w t start (advance st .store) (toldAdvance (advance st .reply) p)
   unfolding advance
-  advance-good = rw (threads-is, g .working .slots-is, g .working .width-is, g .working .clock-is) (go check refl)
+  advance-good = rw (threads-is g, g .working .slots-is, g .working .width-is, g .working .clock-is) (go check refl)
     where
       go : (k : Check) → check ≡ k → Good n w t start (stepping k st next .store) (toldAdvance (stepping k st next .reply) p)
       go (Refused r) e = g

@@ -18,10 +18,28 @@ use Rattle.transient.specs.Layout.{lastTaken, openEpoch}
 use Rattle.transient.specs.Entry.{threads, entryCheck}
 use Rattle.changes.specs.Code.{entry-passed}
 use Rattle.changes.specs.Job.{badJob, operating}
-use Rattle.changes.specs.Changed.{Changed, refused, declines, entered, onStore}
+use Rattle.changes.specs.Changed.{Changed, refused, declines, entered, onStore, Answer}
 use Rattle.crash.specs.Reference.{Jobs, Act, Value}
 use Rattle.guarantee.specs.Trace.{Plain, toldChange}
 use Rattle.guarantee.specs.Good.{Good}
+
+-- ---- the shapes that calls are made of
+-- a condition that refuses, or what follows
+pub declines-way : (P : Changed → Type 0) (wk tr : List ℕ) (b : Bool) (r : Refusal) (next : Changed) → P (refused r wk tr) → (b ≡ false → P next) → P (declines b r wk tr next)
+declines-way P wk tr true r next g h = g
+declines-way P wk tr false r next g h = h refl
+
+-- refusals 1 and 2, or the call's own part
+pub call-way : (P : Answer → Type 0) (st : Store) (call : List ℕ → List ℕ → ℕ → ℕ → ℕ → Changed) → ((r : Refusal) → P (record { reply = Refused r; store = st }))
+    → (entryCheck st ≡ Accepted → P (entered Accepted st (call (st .working) (st .transient) (slotsOf (st .working)) (widthOf (st .working)) (threads st)))) → P (onStore st call)
+call-way P st call a b = go (entryCheck st) refl
+  where
+    go : (k : Check) → entryCheck st ≡ k → P (entered k st (call (st .working) (st .transient) (slotsOf (st .working)) (widthOf (st .working)) (threads st)))
+    go (Refused r) e = a r
+    go Accepted e = b e
+
+pub threads-is : {n w t : ℕ} {start : Jobs} {st : Store} {p : Plain} → Good n w t start st p → threads st ≡ t
+threads-is g = rw (g .notes .long, g .working .slots-is) (omega arith)
 
 -- what a call's part leaves is good
 pub record Fine (n w t : ℕ) (start : Jobs) (l : List ℕ) (p : Plain) (act : Act) (thread key : ℕ) (v : Value) (ch : Changed) : Type 0 where
@@ -34,26 +52,16 @@ module _ {n w t : ℕ} {start : Jobs} {wk l tr : List ℕ} {p : Plain} {act : Ac
   -- a condition that refuses, or what follows
   pub fine-declines : (b : Bool) (r : Refusal) (next : Changed) → (b ≡ false → Fine n w t start l p act thread key v next)
       → Fine n w t start l p act thread key v (declines b r wk tr next)
-  fine-declines true r next h = record { good = g }
-  fine-declines false r next h = h refl
+  fine-declines b r next h = declines-way (Fine n w t start l p act thread key v) wk tr b r next (record { good = g }) h
 
 -- a whole call, from its part after refusals 1 and 2
 pub fine-call : {n w t : ℕ} {start : Jobs} {st : Store} {p : Plain} {act : Act} {thread key : ℕ} {v : Value} (call : List ℕ → List ℕ → ℕ → ℕ → ℕ → Changed)
     → Good n w t start st p
     → (entryCheck st ≡ Accepted → Fine n w t start (st .persistent) p act thread key v (call (st .working) (st .transient) n w t))
     → Good n w t start (onStore st call .store) (toldChange (onStore st call .reply) act thread key v p)
-fine-call {n} {w} {t} {start} {st} {p} {act} {thread} {key} {v} call g h = go (entryCheck st) refl
-  where
-    sizes : call (st .working) (st .transient) (slotsOf (st .working)) (widthOf (st .working)) (threads st) ≡ call (st .working) (st .transient) n w t
-    sizes =
-        let q : threads st ≡ t = rw (g .notes .long, g .working .slots-is) (omega arith) in
-        rw (q, g .working .slots-is, g .working .width-is)
-
-    go : (k : Check) → entryCheck st ≡ k
-        → Good n w t start (entered k st (call (st .working) (st .transient) (slotsOf (st .working)) (widthOf (st .working)) (threads st)) .store)
-        (toldChange (entered k st (call (st .working) (st .transient) (slotsOf (st .working)) (widthOf (st .working)) (threads st)) .reply) act thread key v p)
-    go (Refused r) e = g
-    go Accepted e = rw sizes (h e .good)
+fine-call {n} {w} {t} {start} {st} {p} {act} {thread} {key} {v} call g h =
+    call-way (λ a. Good n w t start (a .store) (toldChange (a .reply) act thread key v p)) st call (λ r. g)
+    (λ e. rw (threads-is g, g .working .slots-is, g .working .width-is) (h e .good))
 
 -- the last slot taken is one of the table
 pub last-below : {n w t : ℕ} {start : Jobs} {st : Store} {p : Plain} → Good n w t start st p → entryCheck st ≡ Accepted → lastTaken (st .transient) < n

@@ -4,6 +4,7 @@ pub mod Theorem
 pub mod Worked
 pub mod Syncs
 pub mod Stores
+pub mod Ends
 pub mod View
 pub mod Good
 pub mod Notes

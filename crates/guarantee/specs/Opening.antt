@@ -1,7 +1,7 @@
 -- Begin and end keep the invariant: they change one thread's open epoch, which no slot sees.
 use Prim.Native.Nat.{ℕ, _+_, _≤_, _<_}
 use mathlib.Core.Path.{_≡_, refl, fun-ext}
-use mathlib.Core.Bool.{Bool, true, false, not}
+use mathlib.Core.Bool.{false, not}
 use mathlib.Core.Logic.{_≢_, _⊎_, ⊎-elim}
 use mathlib.Core.List.{List, _∷_, List·Memᴰ, List·Memᴰ·cases-cons}
 use lib.Dec.{leb, eqb}
@@ -9,20 +9,18 @@ use borrow.Author.Tests.{leb-false, eq-eqb, ne-eqb}
 use native.Mathlib.Omega.{arith}
 use native.Mathlib.Decide.{ℕ-discrete}
 use Rattle.reply.specs.declared.Check.{Check}
-use Rattle.reply.specs.declared.Check.the-variants.{Accepted, Refused}
-use Rattle.reply.specs.declared.Refusal.{Refusal}
 use Rattle.reply.specs.declared.Refusal.the-variants.{NoThread, AlreadyOpen, NotOpen}
 use Rattle.transient.specs.Store.{Store, store}
 use Rattle.transient.specs.Layout.{placePhase, openEpoch, waitingAt, setOpen}
 use Rattle.transient.specs.Laws.{length-setOpen, word-setOpen, open-same, notes-after}
-use Rattle.transient.specs.Entry.{threads, entryCheck}
-use Rattle.changes.specs.Changed.{Changed, declines, entered}
+use Rattle.changes.specs.Changed.{Changed}
 use Rattle.changes.specs.Open.{begun, ended, begin, end}
 use Rattle.epochs.specs.Advance.{underway}
 use Rattle.crash.specs.Reference.{Jobs}
 use Rattle.guarantee.specs.Trace.{Plain, opening, toldBegin, toldEnd}
 use Rattle.guarantee.specs.View.{view, same-view}
 use Rattle.guarantee.specs.Good.{Opens, Good}
+use Rattle.guarantee.specs.Changing.{declines-way, call-way, threads-is}
 use Rattle.guarantee.specs.Notes.{waiting-same-word}
 
 -- ---- an open epoch set
@@ -90,34 +88,23 @@ module _ {n w t : ℕ} {start : Jobs} {wk l tr : List ℕ} {p : Plain} (thread e
 
 -- ---- the calls
 module _ {n w t : ℕ} {start : Jobs} {st : Store} {p : Plain} (thread : ℕ) (g : Good n w t start st p) where
-  threads-is : threads st ≡ t
-  threads-is = rw (g .notes .long, g .working .slots-is) (omega arith)
+  -- what a call's part leaves is good, the reference map being told so
+  abbrev Told : (Check → ℕ → Plain → Plain) → Changed → Type 0
+  Told tell ch = Good n w t start (store (ch .working) (st .persistent) (ch .transient)) (tell (ch .reply) thread p)
 
-  abbrev told : (Check → ℕ → Plain → Plain) → Changed → Type 0
-  told tell ch = Good n w t start (store (ch .working) (st .persistent) (ch .transient)) (tell (ch .reply) thread p)
-
-  -- a condition that refuses, or what follows
-  begun-declines : (b : Bool) (r : Refusal) (next : Changed) → (b ≡ false → told toldBegin next) → told toldBegin (declines b r (st .working) (st .transient) next)
-  begun-declines true r next h = g
-  begun-declines false r next h = h refl
-
-  ended-declines : (b : Bool) (r : Refusal) (next : Changed) → (b ≡ false → told toldEnd next) → told toldEnd (declines b r (st .working) (st .transient) next)
-  ended-declines true r next h = g
-  ended-declines false r next h = h refl
-
-  begun-fine : told toldBegin (begun (st .working) (st .transient) t thread)
+  begun-fine : Told toldBegin (begun (st .working) (st .transient) t thread)
   unfolding begun
   begun-fine =
-      begun-declines (leb t thread) NoThread _
-      (λ a. begun-declines (not (eqb (openEpoch (st .transient) thread) 0)) AlreadyOpen _
+      declines-way (Told toldBegin) (st .working) (st .transient) (leb t thread) NoThread _ g
+      (λ a. declines-way (Told toldBegin) (st .working) (st .transient) (not (eqb (openEpoch (st .transient) thread) 0)) AlreadyOpen _ g
       (λ b. rw (g .working .clock-is) (open-good thread (p .clock) (p .ended) g (leb-false t thread a)
       (λ h. g .inv .clock-lo) (λ h. omega arith) (omega arith) (g .past .ended-hi))))
 
-  ended-fine : told toldEnd (ended (st .working) (st .transient) t thread)
+  ended-fine : Told toldEnd (ended (st .working) (st .transient) t thread)
   unfolding ended
   ended-fine =
-      ended-declines (leb t thread) NoThread _
-      (λ a. ended-declines (eqb (openEpoch (st .transient) thread) 0) NotOpen _
+      declines-way (Told toldEnd) (st .working) (st .transient) (leb t thread) NoThread _ g
+      (λ a. declines-way (Told toldEnd) (st .working) (st .transient) (eqb (openEpoch (st .transient) thread) 0) NotOpen _ g
       (λ b. open-good thread 0 (p .operation thread ∷ p .ended) g (leb-false t thread a)
       (λ h. absurd (omega arith)) (λ h. absurd (omega arith)) (omega arith) (bound (leb-false t thread a))))
     where
@@ -126,18 +113,12 @@ module _ {n w t : ℕ} {start : Jobs} {st : Store} {p : Plain} (thread : ℕ) (g
 
   pub begin-good : Good n w t start (begin st thread .store) (toldBegin (begin st thread .reply) thread p)
   unfolding begin
-  begin-good = go (entryCheck st)
-    where
-      go : (k : Check) → Good n w t start (entered k st (begun (st .working) (st .transient) (threads st) thread) .store)
-          (toldBegin (entered k st (begun (st .working) (st .transient) (threads st) thread) .reply) thread p)
-      go (Refused r) = g
-      go Accepted = rw threads-is begun-fine
+  begin-good =
+      call-way (λ a. Good n w t start (a .store) (toldBegin (a .reply) thread p)) st (λ wk tr n w t. begun wk tr t thread) (λ r. g)
+      (λ e. rw (threads-is g) begun-fine)
 
   pub end-good : Good n w t start (end st thread .store) (toldEnd (end st thread .reply) thread p)
   unfolding end
-  end-good = go (entryCheck st)
-    where
-      go : (k : Check) → Good n w t start (entered k st (ended (st .working) (st .transient) (threads st) thread) .store)
-          (toldEnd (entered k st (ended (st .working) (st .transient) (threads st) thread) .reply) thread p)
-      go (Refused r) = g
-      go Accepted = rw threads-is ended-fine
+  end-good =
+      call-way (λ a. Good n w t start (a .store) (toldEnd (a .reply) thread p)) st (λ wk tr n w t. ended wk tr t thread) (λ r. g)
+      (λ e. rw (threads-is g) ended-fine)

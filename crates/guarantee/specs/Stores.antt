@@ -1,11 +1,8 @@
 -- The moments of a run are one after each single store into persistent: from each to the next at most one line changes there.
 use Prim.Native.Nat.{ℕ, zero, suc, _*_}
-use mathlib.Core.Path.{_≡_, refl}
 use mathlib.Core.Bool.{Bool, true, false, cond}
 use mathlib.Core.List.{List, [], _∷_, _++_}
 use lib.Dec.{eqb}
-use Rattle.search.specs.declared.Found.{Found}
-use Rattle.search.specs.declared.Found.the-variants.{At, Nothing}
 use Rattle.reply.specs.declared.Check.{Check}
 use Rattle.reply.specs.declared.Check.the-variants.{Accepted, Refused}
 use Rattle.reply.specs.Refusals as refusals
@@ -13,7 +10,7 @@ use Rattle.image.specs.declared.header.Header.{Header}
 use Rattle.image.specs.Layout.{setHeader, setContents, setClock, slotsOf, widthOf, clockOf}
 use Rattle.transient.specs.Store.{Store, store}
 use Rattle.transient.specs.Entry.{threads, entryCheck}
-use Rattle.changes.specs.Changed.{Changed, entered, onStore}
+use Rattle.changes.specs.Changed.{Changed, onStore}
 use Rattle.changes.specs.Open as opens
 use Rattle.changes.specs.Open.{begin, end}
 use Rattle.changes.specs.New.{made, new}
@@ -23,11 +20,13 @@ use Rattle.changes.specs.Delete.{delete}
 use Rattle.epochs.specs.declared.Place.{Place}
 use Rattle.epochs.specs.declared.Advance.{Advance}
 use Rattle.epochs.specs.declared.Advance.the-variants.{WentOn, Ticked, Declined}
-use Rattle.epochs.specs.Advance.{Stepped, reclaimed, contentsLine, headerLine, ticking, flushing, waitingFrom, flushFrom, reclaiming, dueFrom, reclaimFrom, step, placeOf, advanceCheck, stepping, advance}
+use Rattle.epochs.specs.Advance.{reclaimed, contentsLine, headerLine, ticking, step, placeOf, advanceCheck, stepping, advance}
+use Rattle.epochs.specs.Ways.{every-way}
 use Rattle.epochs.specs.Sync.{syncCheck, mostLines}
 use Rattle.epochs.specs.WriteBack.{writeBackCheck, copied, written, writeBack}
+use Rattle.guarantee.specs.Changing.{call-way}
 use Rattle.guarantee.specs.Trace as trace
-use Rattle.guarantee.specs.Trace.{Line, Call, begins, ends, news, sets, deletes, reads, advances, syncs, writesBack, Moment, moment, Trace, begun, ended, newed, reset, removed, advanced, lineBack, linesBack, firstLines, laterLines, onward, advancing, syncing, synced, through, run}
+use Rattle.guarantee.specs.Trace.{Line, Call, begins, ends, news, sets, deletes, reads, advances, syncs, writesBack, Moment, Trace, begun, ended, newed, reset, removed, advanced, lineBack, linesBack, firstLines, laterLines, onward, advancing, syncing, synced, through, run}
 
 -- l′ is l, or l with one line stored
 pub data OneLine (l : List ℕ) : List ℕ → Type 0 where
@@ -50,33 +49,12 @@ module _ (wk l tr : List ℕ) (n w t c : ℕ) where
   unfolding ticking
   tick-one = clock _
 
-  flush-one : (p : ℕ) → OneLine l (flushFrom wk l tr n w t c p .persistent)
-  unfolding flushFrom
-  flush-one p = go (waitingFrom tr n t c p)
-    where
-      go : (f : Found) → OneLine l (flushing f wk l tr n w t c .persistent)
-      go (At s) = line-one s
-      go Nothing = tick-one
-
-  reclaim-one : (p : ℕ) → OneLine l (reclaimFrom wk l tr n w t c p .persistent)
-  unfolding reclaimFrom reclaimed
-  reclaim-one p = go (dueFrom wk tr n t c p)
-    where
-      go : (f : Found) → OneLine l (reclaiming f wk l tr n w t c .persistent)
-      go (At s) = header s _
-      go Nothing = flush-one 0
-
-  either : (b : Bool) (x y : Stepped) → OneLine l (x .persistent) → OneLine l (y .persistent) → OneLine l (cond b x y .persistent)
-  either true x y p q = p
-  either false x y p q = q
+  reclaim-one : (s : ℕ) → OneLine l (reclaimed wk l tr n t s .persistent)
+  unfolding reclaimed
+  reclaim-one s = header s _
 
   step-one : (p : Place) → OneLine l (step wk l tr n w t c p .persistent)
-  unfolding step
-  step-one p =
-      either (eqb (p .phase) 1) _ _ (reclaim-one (p .slot))
-      (either (eqb (p .phase) 2) _ _ (flush-one (p .slot))
-      (either (eqb (p .phase) 3) _ _ (head-one (p .slot))
-      (either (eqb (p .phase) 4) _ _ tick-one (reclaim-one 0))))
+  step-one = every-way (λ z. OneLine l (z .persistent)) wk l tr n w t c reclaim-one line-one head-one tick-one
 
 -- "One advance call stores one lasting line."
 pub advance-one : (st : Store) → OneLine (st .persistent) (advance st .store .persistent)
@@ -102,11 +80,7 @@ write-back-one st slot line = go (writeBackCheck st slot line)
 
 -- "Change calls never store into the lasting image."
 job-none : (st : Store) (call : List ℕ → List ℕ → ℕ → ℕ → ℕ → Changed) → OneLine (st .persistent) (onStore st call .store .persistent)
-job-none st call = go (entryCheck st)
-  where
-    go : (k : Check) → OneLine (st .persistent) (entered k st (call (st .working) (st .transient) (slotsOf (st .working)) (widthOf (st .working)) (threads st)) .store .persistent)
-    go (Refused r) = none
-    go Accepted = none
+job-none st call = call-way (λ a. OneLine (st .persistent) (a .store .persistent)) st call (λ r. none) (λ e. none)
 
 -- ---- a trace: from m through the moments of the list to the last one
 pub data Chain : Moment → List Moment → Moment → Type 0 where
