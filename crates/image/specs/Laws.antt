@@ -1,27 +1,48 @@
--- Get/set laws: each reader after each writer, at the same slot and at another. Callers use these, not the texts.
+-- Get/set laws: what is read after a line is stored, in it and apart from it. Callers use these, not the texts.
 use Prim.Native.Nat.{ℕ, zero, suc, _+_, _*_, _-_, _≤_, _<_}
 use mathlib.Core.Path.{_≡_, refl, sym, ap, _∙_}
 use mathlib.Core.Logic.{_≢_, _⊎_, inl, inr, ⊎-elim}
 use mathlib.Core.List.{List, [], _∷_}
 use mathlib.Core.Bool.{Bool, true, false, _&&_}
 use lib.ListN.{length, getD, set, take, drop, length-set, length-take, length-drop}
-use lib.Seq.{getD-set-same, getD-set-other, drop-set-lt, ext-getD, getD-take, getD-drop, take-set-le, take-nil, drop-drop}
+use lib.Dec.{leb, eqb}
+use lib.Seq.{getD-set-same, getD-set-other, ext-getD, getD-take, getD-drop, take-nil, drop-drop}
+use borrow.Author.Tests.{leb-true, eqb-true}
 use native.Mathlib.Omega.{arith}
-use native.Mathlib.Nat.{mul-suc, mul-le-mul-left, eq-or-lt-of-le}
+use native.Mathlib.Nat.{mul-le-mul, eq-or-lt-of-le}
 use native.Mathlib.Decide.{decLt}
+use Rattle.search.specs.Bools.{and-left, and-right}
 use Rattle.image.specs.declared.header.Header.{Header}
-use Rattle.image.specs.Layout.{headerAt, contentsAt, imageWords, headerOf, kindAt, epochAt, uidAt, header, contents, keyAt, valueAt, clockOf, setHeader, stored, setContents, setClock, Sized, Slot, HeaderFits}
+use Rattle.image.specs.Layout.{mostSlots, headerWords, headerAt, contentsAt, imageWords, kindAt, epochAt, uidAt, header, contents, keyAt, valueAt, slotsOf, widthOf, clockOf, sizesOk, shapeOk}
+use Rattle.image.specs.Line.{Line, headerLine, contentsLine, clockLine, stored, storeLine}
+use Rattle.image.specs.Requires.{InRange, Sized, Slot, HeaderFits, room-of, slot-after}
 
--- ---- products: slot s's words end within n slots' words, and two slots' words lie apart
-pub room-of : (w s n : ℕ) → s < n → w * s + w ≤ w * n
-room-of w s n h = rw mul-suc at (mul-le-mul-left w h)
+-- ---- an image of the right shape has its sizes
+pub area-top : {n w : ℕ} → InRange n w → w * n ≤ 9 * mostSlots
+area-top z = mul-le-mul (z .width-hi) (z .slots-hi)
 
-pub lanes : (w s t j : ℕ) → t ≢ s → j < w → (w * t + j < w * s) ⊎ (w * s + w ≤ w * t + j)
-lanes w s t j d h =
-    elim (decLt t s) [
-      | yes u ↦ inl (omega (arith, room-of w t s u))
-      | no u ↦ inr (omega (arith, room-of w s t (omega arith)))
-    ]
+pub sizes-true : (n w : ℕ) {r : Bool} → r ≡ sizesOk n w → r ≡ true → InRange n w
+unfolding sizesOk
+sizes-true n w {r} e t =
+    let h : leb 2 n && (leb n mostSlots && (leb 2 w && leb w 9)) ≡ true = sym e ∙ t in
+    let h1 : leb n mostSlots && (leb 2 w && leb w 9) ≡ true = and-right (leb 2 n) (leb n mostSlots && (leb 2 w && leb w 9)) h in
+    let h2 : leb 2 w && leb w 9 ≡ true = and-right (leb n mostSlots) (leb 2 w && leb w 9) h1 in
+    record {
+      slots-lo = leb-true 2 n (and-left (leb 2 n) (leb n mostSlots && (leb 2 w && leb w 9)) h);
+      slots-hi = leb-true n mostSlots (and-left (leb n mostSlots) (leb 2 w && leb w 9) h1);
+      width-lo = leb-true 2 w (and-left (leb 2 w) (leb w 9) h2);
+      width-hi = leb-true w 9 (and-right (leb 2 w) (leb w 9) h2);
+    }
+
+pub shaped : (l : List ℕ) → shapeOk l ≡ true → Sized l (slotsOf l) (widthOf l)
+unfolding shapeOk
+shaped l h =
+    let n = slotsOf l in
+    let w = widthOf l in
+    record {
+      sizes = sizes-true n w refl (and-left (sizesOk n w) (eqb (length l) (imageWords n w)) h);
+      long = eqb-true (length l) (imageWords n w) (and-right (sizesOk n w) (eqb (length l) (imageWords n w)) h);
+    }
 
 -- ---- a word's store, at numbers
 get-same : (l : List ℕ) (i v : ℕ) → i < length l → getD (set l i v) i 0 ≡ v
@@ -70,148 +91,133 @@ stored-front dst src k e h =
     ext-getD 0 (take k (stored dst 0 src k)) src (long ∙ sym e)
     (λ i l. let u : i < k = rw long at l in getD-take k (stored dst 0 src k) i 0 u ∙ front-inside dst src k i u h)
 
--- ---- lengths
-pub length-setHeader : (l : List ℕ) (s : ℕ) (h : Header) → length (setHeader l s h) ≡ length l
-unfolding setHeader
-length-setHeader l s h = simp length-set
+-- ---- a line: its own words, and those apart from it
+-- the m words from b on are none of the line's
+abbrev pub Apart : Line → ℕ → ℕ → Type 0
+Apart k b m = (b + m ≤ k .at) ⊎ (k .at + length (k .words) ≤ b)
 
-pub length-setContents : (l : List ℕ) (n w s : ℕ) (line : List ℕ) → length (setContents l n w s line) ≡ length l
-unfolding setContents
-length-setContents l n w s line = length-stored l (contentsAt n w s) line w
+pub length-store : (l : List ℕ) (k : Line) → length (storeLine l k) ≡ length l
+unfolding storeLine
+length-store l k = length-stored l (k .at) (k .words) (length (k .words))
 
-pub length-setClock : (l : List ℕ) (c : ℕ) → length (setClock l c) ≡ length l
-unfolding setClock
-length-setClock l c = length-set l 2 c
+word-in : (l : List ℕ) (k : Line) (j : ℕ) → j < length (k .words) → k .at + length (k .words) ≤ length l → getD (storeLine l k) (k .at + j) 0 ≡ getD (k .words) j 0
+unfolding storeLine
+word-in l k j h f = stored-inside l (k .at) (k .words) (length (k .words)) j h f
 
--- ---- a header's store: away from it
-setHeader-word : (l : List ℕ) (s : ℕ) (h : Header) (j : ℕ) → (j < headerAt s) ⊎ (headerAt s + 2 < j) → getD (setHeader l s h) j 0 ≡ getD l j 0
-unfolding setHeader
-setHeader-word l s h j o =
-    let a : j ≢ headerAt s = ⊎-elim (λ (u : j < headerAt s). λ e. omega arith) (λ (u : headerAt s + 2 < j). λ e. omega arith) o in
-    let b : j ≢ headerAt s + 1 = ⊎-elim (λ (u : j < headerAt s). λ e. omega arith) (λ (u : headerAt s + 2 < j). λ e. omega arith) o in
-    let c : j ≢ headerAt s + 2 = ⊎-elim (λ (u : j < headerAt s). λ e. omega arith) (λ (u : headerAt s + 2 < j). λ e. omega arith) o in
-    simp getD-set-other
+pub word-apart : (l : List ℕ) (k : Line) (j : ℕ) → Apart k j 1 → getD (storeLine l k) j 0 ≡ getD l j 0
+unfolding storeLine
+word-apart l k j o = stored-outside l (k .at) (k .words) (length (k .words)) j (⊎-elim (λ h. inl (omega arith)) (λ h. inr h) o)
 
-pub header-same : {l : List ℕ} {n s : ℕ} (h : Header) → HeaderFits l n s → header (setHeader l s h) s ≡ h
-unfolding setHeader header
+-- the part of m words from b on
+part-word : (l : List ℕ) (b m j : ℕ) → j < m → getD (take m (drop b l)) j 0 ≡ getD l (b + j) 0
+part-word l b m j h = getD-take m (drop b l) j 0 h ∙ getD-drop b l j 0
+
+part-long : (l l′ : List ℕ) (b m : ℕ) → length l′ ≡ length l → length (take m (drop b l′)) ≡ length (take m (drop b l))
+part-long l l′ b m e = simp (length-take, length-drop, e)
+
+part-top : (l : List ℕ) (b m : ℕ) → length (take m (drop b l)) ≤ m
+part-top l b m = simp length-take (omega arith)
+
+pub part-apart : (l : List ℕ) (k : Line) (b m : ℕ) → Apart k b m → take m (drop b (storeLine l k)) ≡ take m (drop b l)
+part-apart l k b m o =
+    let long = part-long l (storeLine l k) b m (length-store l k) in
+    ext-getD 0 (take m (drop b (storeLine l k))) (take m (drop b l)) long
+    (λ j h.
+    let u : j < m = omega (arith, part-top (storeLine l k) b m) in
+    part-word (storeLine l k) b m j u
+    ∙ word-apart l k (b + j) (⊎-elim (λ q. inl (omega arith)) (λ q. inr (omega arith)) o)
+    ∙ sym (part-word l b m j u))
+
+pub part-same : (l : List ℕ) (k : Line) (m : ℕ) → length (k .words) ≡ m → k .at + m ≤ length l → take m (drop (k .at) (storeLine l k)) ≡ k .words
+part-same l k m e f =
+    let long : length (take m (drop (k .at) (storeLine l k))) ≡ m = simp (length-take, length-drop, length-store) (omega arith) in
+    ext-getD 0 (take m (drop (k .at) (storeLine l k))) (k .words) (long ∙ sym e)
+    (λ j h.
+    let u : j < m = rw long at h in
+    part-word (storeLine l k) (k .at) m j u ∙ word-in l k j (omega arith) (omega arith))
+
+-- ---- headers
+pub header-apart : (l : List ℕ) (k : Line) (s : ℕ) → Apart k (headerAt s) headerWords → header (storeLine l k) s ≡ header l s
+unfolding header
+header-apart l k s o =
+    λ i. record {
+      kind = word-apart l k (headerAt s) (⊎-elim (λ h. inl (omega arith)) (λ h. inr (omega arith)) o) i;
+      epoch = word-apart l k (headerAt s + 1) (⊎-elim (λ h. inl (omega arith)) (λ h. inr (omega arith)) o) i;
+      uid = word-apart l k (headerAt s + 2) (⊎-elim (λ h. inl (omega arith)) (λ h. inr (omega arith)) o) i;
+    }
+
+pub header-same : {l : List ℕ} {n s : ℕ} (h : Header) → HeaderFits l n s → header (storeLine l (headerLine s h)) s ≡ h
+unfolding header
 header-same {l} {n} {s} h z =
-    let k : kindAt (setHeader l s h) s ≡ h .kind =
-    rw (get-other (set (set l (headerAt s) (h .kind)) (headerAt s + 1) (h .epoch)) (headerAt s + 2) (headerAt s) (h .uid) (omega arith), get-other (set l (headerAt s) (h .kind)) (headerAt s + 1) (headerAt s) (h .epoch) (omega arith))
-    (get-same l (headerAt s) (h .kind) (omega arith)) in
-    let e : epochAt (setHeader l s h) s ≡ h .epoch =
-    rw (get-other (set (set l (headerAt s) (h .kind)) (headerAt s + 1) (h .epoch)) (headerAt s + 2) (headerAt s + 1) (h .uid) (omega arith))
-    (get-same (set l (headerAt s) (h .kind)) (headerAt s + 1) (h .epoch) (simp length-set (omega arith))) in
-    let u : uidAt (setHeader l s h) s ≡ h .uid =
-    get-same (set (set l (headerAt s) (h .kind)) (headerAt s + 1) (h .epoch)) (headerAt s + 2) (h .uid) (simp length-set (omega arith)) in
+    let first : headerAt s + 0 ≡ headerAt s = omega arith in
+    let k : kindAt (storeLine l (headerLine s h)) s ≡ h .kind = rw first at (word-in l (headerLine s h) 0 (omega arith) (omega (arith, z .long))) in
+    let e : epochAt (storeLine l (headerLine s h)) s ≡ h .epoch = word-in l (headerLine s h) 1 (omega arith) (omega (arith, z .long)) in
+    let u : uidAt (storeLine l (headerLine s h)) s ≡ h .uid = word-in l (headerLine s h) 2 (omega arith) (omega (arith, z .long)) in
     λ i. record { kind = k i; epoch = e i; uid = u i }
 
-pub header-other : (l : List ℕ) (s t : ℕ) (h : Header) → t ≢ s → header (setHeader l s h) t ≡ header l t
-unfolding header
+pub header-other : (l : List ℕ) (s t : ℕ) (h : Header) → t ≢ s → header (storeLine l (headerLine s h)) t ≡ header l t
 header-other l s t h d =
-    elim (decLt t s) [
-      | yes u ↦ λ i. record { kind = setHeader-word l s h (headerAt t) (inl (omega arith)) i; epoch = setHeader-word l s h (headerAt t + 1) (inl (omega arith)) i; uid = setHeader-word l s h (headerAt t + 2) (inl (omega arith)) i }
-      | no u ↦ λ i. record { kind = setHeader-word l s h (headerAt t) (inr (omega arith)) i; epoch = setHeader-word l s h (headerAt t + 1) (inr (omega arith)) i; uid = setHeader-word l s h (headerAt t + 2) (inr (omega arith)) i }
-    ]
+    header-apart l (headerLine s h) t (elim (decLt t s) [ yes u ↦ inl (omega arith) | no u ↦ inr (omega arith) ])
 
-drop-setHeader : (l : List ℕ) (s : ℕ) (h : Header) (b : ℕ) → headerAt s + 2 < b → drop b (setHeader l s h) ≡ drop b l
-unfolding setHeader
-drop-setHeader l s h b u =
-    drop-set-lt b (set (set l (headerAt s) (h .kind)) (headerAt s + 1) (h .epoch)) (headerAt s + 2) (h .uid) (omega arith)
-    ∙ drop-set-lt b (set l (headerAt s) (h .kind)) (headerAt s + 1) (h .epoch) (omega arith)
-    ∙ drop-set-lt b l (headerAt s) (h .kind) (omega arith)
-
--- .. it leaves every slot's contents, and the clock and sizes
+-- .. such a line leaves every slot's contents, the clock and the sizes
 module _ (l : List ℕ) (n w s t : ℕ) (h : Header) (within : s < n) where
-  pub contents-setHeader : contents (setHeader l s h) n w t ≡ contents l n w t
+  pub contents-past-header : contents (storeLine l (headerLine s h)) n w t ≡ contents l n w t
   unfolding contents
-  contents-setHeader = ap (take w) (drop-setHeader l s h (contentsAt n w t) (omega arith))
+  contents-past-header = part-apart l (headerLine s h) (contentsAt n w t) w (inr (omega arith))
 
-  pub key-setHeader : keyAt (setHeader l s h) n w t ≡ keyAt l n w t
+  pub key-past-header : keyAt (storeLine l (headerLine s h)) n w t ≡ keyAt l n w t
   unfolding keyAt
-  key-setHeader = setHeader-word l s h (contentsAt n w t) (inr (omega arith))
+  key-past-header = word-apart l (headerLine s h) (contentsAt n w t) (inr (omega arith))
 
-  pub value-setHeader : valueAt (setHeader l s h) n w t ≡ valueAt l n w t
+  pub value-past-header : valueAt (storeLine l (headerLine s h)) n w t ≡ valueAt l n w t
   unfolding valueAt
-  value-setHeader = ap (take (w - 1)) (drop-setHeader l s h (contentsAt n w t + 1) (omega arith))
+  value-past-header = part-apart l (headerLine s h) (contentsAt n w t + 1) (w - 1) (inr (omega arith))
 
-pub front-setHeader : (l : List ℕ) (s j : ℕ) (h : Header) → j < 3 → getD (setHeader l s h) j 0 ≡ getD l j 0
-front-setHeader l s j h u = setHeader-word l s h j (inl (omega arith))
+pub front-past-header : (l : List ℕ) (s j : ℕ) (h : Header) → j < 3 → getD (storeLine l (headerLine s h)) j 0 ≡ getD l j 0
+front-past-header l s j h u = word-apart l (headerLine s h) j (inl (omega arith))
 
--- ---- the store of contents
-words-apart : (n w s t j : ℕ) → t ≢ s → j < w → (contentsAt n w t + j < contentsAt n w s) ⊎ (contentsAt n w s + w ≤ contentsAt n w t + j)
-words-apart n w s t j d h = ⊎-elim (λ u. inl (omega arith)) (λ u. inr (omega arith)) (lanes w s t j d h)
-
-pub contents-word : (l : List ℕ) (n w s j : ℕ) → j < w → getD (contents l n w s) j 0 ≡ getD l (contentsAt n w s + j) 0
-unfolding contents
-contents-word l n w s j h = getD-take w (drop (contentsAt n w s) l) j 0 h ∙ getD-drop (contentsAt n w s) l j 0
-
+-- ---- contents
 pub length-contents : {l : List ℕ} {n w s : ℕ} → Slot l n w s → length (contents l n w s) ≡ w
 unfolding contents
 length-contents {l} {n} {w} {s} z = simp (length-take, length-drop) (omega arith)
 
-pub sized-after : {l l′ : List ℕ} {n w : ℕ} → length l′ ≡ length l → Sized l n w → Sized l′ n w
-sized-after e z = record { sizes = z .sizes; long = e ∙ z .long }
+pub contents-word : (l : List ℕ) (n w s j : ℕ) → j < w → getD (contents l n w s) j 0 ≡ getD l (contentsAt n w s + j) 0
+unfolding contents
+contents-word l n w s j h = part-word l (contentsAt n w s) w j h
 
-pub slot-after : {l l′ : List ℕ} {n w s : ℕ} → length l′ ≡ length l → Slot l n w s → Slot l′ n w s
-slot-after e z = record { sized = sized-after e (z .sized); within = z .within; room = z .room }
+pub contents-same : {l : List ℕ} {n w s : ℕ} (words : List ℕ) → length words ≡ w → Slot l n w s → contents (storeLine l (contentsLine n w s words)) n w s ≡ words
+unfolding contents
+contents-same {l} {n} {w} {s} words e z = part-same l (contentsLine n w s words) w e (omega arith)
 
-inside : {l : List ℕ} {n w s : ℕ} (line : List ℕ) → Slot l n w s → (j : ℕ) → j < w → getD (setContents l n w s line) (contentsAt n w s + j) 0 ≡ getD line j 0
-unfolding setContents
-inside {l} {n} {w} {s} line z j u = stored-inside l (contentsAt n w s) line w j u (omega arith)
+pub contents-other : (l : List ℕ) (n w s t : ℕ) (words : List ℕ) → length words ≡ w → t ≢ s → contents (storeLine l (contentsLine n w s words)) n w t ≡ contents l n w t
+unfolding contents
+contents-other l n w s t words e d =
+    part-apart l (contentsLine n w s words) (contentsAt n w t) w
+    (elim (decLt t s) [
+      | yes u ↦ inl (omega (arith, room-of w t s u))
+      | no u ↦ inr (omega (arith, e, room-of w s t (omega arith)))
+    ])
 
-outside : (l : List ℕ) (n w s t : ℕ) (line : List ℕ) → t ≢ s → (j : ℕ) → j < w → getD (setContents l n w s line) (contentsAt n w t + j) 0 ≡ getD l (contentsAt n w t + j) 0
-unfolding setContents
-outside l n w s t line d j u = stored-outside l (contentsAt n w s) line w (contentsAt n w t + j) (words-apart n w s t j d u)
+-- .. such a line leaves every header, the clock and the sizes
+pub front-past-contents : (l : List ℕ) (n w s j : ℕ) (words : List ℕ) → j < 3 → getD (storeLine l (contentsLine n w s words)) j 0 ≡ getD l j 0
+front-past-contents l n w s j words u = word-apart l (contentsLine n w s words) j (inl (omega arith))
 
-pub contents-same : {l : List ℕ} {n w s : ℕ} (line : List ℕ) → Slot l n w s → length line ≡ w → contents (setContents l n w s line) n w s ≡ line
-contents-same {l} {n} {w} {s} line z e =
-    let z′ : Slot (setContents l n w s line) n w s = slot-after (length-setContents l n w s line) z in
-    let long : length (contents (setContents l n w s line) n w s) ≡ w = length-contents z′ in
-    ext-getD 0 (contents (setContents l n w s line) n w s) line (long ∙ sym e)
-    (λ j h. let u : j < w = rw long at h in contents-word (setContents l n w s line) n w s j u ∙ inside line z j u)
+pub header-past-contents : (l : List ℕ) (n w s t : ℕ) (words : List ℕ) → t < n → header (storeLine l (contentsLine n w s words)) t ≡ header l t
+header-past-contents l n w s t words h = header-apart l (contentsLine n w s words) t (inl (omega arith))
 
-pub contents-other : {l : List ℕ} {n w s t : ℕ} (line : List ℕ) → Slot l n w t → t ≢ s → contents (setContents l n w s line) n w t ≡ contents l n w t
-contents-other {l} {n} {w} {s} {t} line y d =
-    let y′ : Slot (setContents l n w s line) n w t = slot-after (length-setContents l n w s line) y in
-    let long : length (contents (setContents l n w s line) n w t) ≡ w = length-contents y′ in
-    ext-getD 0 (contents (setContents l n w s line) n w t) (contents l n w t) (long ∙ sym (length-contents y))
-    (λ j h. let u : j < w = rw long at h in contents-word (setContents l n w s line) n w t j u ∙ outside l n w s t line d j u ∙ sym (contents-word l n w t j u))
+-- ---- the clock
+pub clock-same : (l : List ℕ) (c : ℕ) → 3 ≤ length l → clockOf (storeLine l (clockLine c)) ≡ c
+clock-same l c h = word-in l (clockLine c) 0 (omega arith) (omega arith)
 
--- .. it leaves every header, the clock and the sizes
-pub front-setContents : (l : List ℕ) (n w s j : ℕ) (line : List ℕ) → j < contentsAt n w 0 → getD (setContents l n w s line) j 0 ≡ getD l j 0
-unfolding setContents
-front-setContents l n w s j line u = stored-outside l (contentsAt n w s) line w j (inl (omega arith))
+pub word-past-clock : (l : List ℕ) (c j : ℕ) → j ≢ 2 → getD (storeLine l (clockLine c)) j 0 ≡ getD l j 0
+word-past-clock l c j d = word-apart l (clockLine c) j (elim (decLt j 2) [ yes u ↦ inl (omega arith) | no u ↦ inr (omega arith) ])
 
-pub header-setContents : (l : List ℕ) (n w s t : ℕ) (line : List ℕ) → t < n → header (setContents l n w s line) t ≡ header l t
-unfolding header
-header-setContents l n w s t line h =
-    λ i. record {
-      kind = front-setContents l n w s (headerAt t) line (omega arith) i;
-      epoch = front-setContents l n w s (headerAt t + 1) line (omega arith) i;
-      uid = front-setContents l n w s (headerAt t + 2) line (omega arith) i;
-    }
+pub header-past-clock : (l : List ℕ) (c t : ℕ) → header (storeLine l (clockLine c)) t ≡ header l t
+header-past-clock l c t = header-apart l (clockLine c) t (inr (omega arith))
 
--- ---- the clock's store
-pub clock-same : (l : List ℕ) (c : ℕ) → 3 ≤ length l → clockOf (setClock l c) ≡ c
-unfolding setClock
-clock-same l c h = get-same l 2 c (omega arith)
-
-pub word-setClock : (l : List ℕ) (c j : ℕ) → j ≢ 2 → getD (setClock l c) j 0 ≡ getD l j 0
-unfolding setClock
-word-setClock l c j d = get-other l 2 j c d
-
-pub header-setClock : (l : List ℕ) (c t : ℕ) → header (setClock l c) t ≡ header l t
-unfolding header
-header-setClock l c t =
-    λ i. record {
-      kind = word-setClock l c (headerAt t) (λ e. omega arith) i;
-      epoch = word-setClock l c (headerAt t + 1) (λ e. omega arith) i;
-      uid = word-setClock l c (headerAt t + 2) (λ e. omega arith) i;
-    }
-
-pub contents-setClock : (l : List ℕ) (n w t c : ℕ) → contents (setClock l c) n w t ≡ contents l n w t
-unfolding setClock contents
-contents-setClock l n w t c = ap (take w) (drop-set-lt (contentsAt n w t) l 2 c (omega arith))
+pub contents-past-clock : (l : List ℕ) (n w t c : ℕ) → contents (storeLine l (clockLine c)) n w t ≡ contents l n w t
+unfolding contents
+contents-past-clock l n w t c = part-apart l (clockLine c) (contentsAt n w t) w (inr (omega arith))
 
 -- ---- key and value are parts of the contents
 pub key-contents : (l : List ℕ) (n w s : ℕ) → 1 ≤ w → keyAt l n w s ≡ getD (contents l n w s) 0 0

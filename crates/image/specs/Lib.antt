@@ -1,4 +1,8 @@
 pub mod Layout
+pub mod Line
+pub mod Name
+pub mod Requires
 pub mod Laws
 pub mod Bytes
-pub mod Code
+pub mod Storing
+pub mod Exits

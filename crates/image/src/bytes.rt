@@ -2,7 +2,7 @@
 ghost use mathlib.Core.Path.{_≡_};
 ghost use Prim.Native.Nat.{_*_, _≤_, _<_};
 ghost use lib.ListN.{length, getD};
-ghost use Rattle.image.specs.Layout.{stored};
+ghost use Rattle.image.specs.Line.{stored};
 ghost use Rattle.image.specs.Bytes.{Byte, InWords, wordsOf, Decodes};
 
 fn byte(x: u8) -> u32

@@ -3,13 +3,23 @@ use crate::header::Header;
 ghost use mathlib.Core.Path.{_≡_};
 ghost use Prim.Native.Nat.{_+_, _≤_};
 ghost use lib.ListN.{length, replicate};
-ghost use Rattle.image.specs.Layout.{Slot, Slots, keyAt, stored, contents, setContents, SlotLine};
+ghost use Rattle.image.specs.Layout.{contentsAt, keyAt, contents};
+ghost use Rattle.image.specs.Line.{stored, storeLine, contentsLine};
+ghost use Rattle.image.specs.Requires.{SlotOf, Slot, Slots, SlotLine};
+
+// Where a slot's contents stand.
+pub fn contents_at(n: usize, w: usize, s: usize) -> usize
+    requires { ⌜ SlotOf n w s ⌝ }
+    ensures { λ r. ⌜ r ≡ contentsAt n w s ⌝ }
+{
+    3 + Header::WORDS * n + w * s
+}
 
 pub fn key_at(img: &[u32], n: usize, w: usize, s: usize) -> u32
     requires { ⌜ Slot (now img) n w s ⌝ }
     ensures { λ r. ⌜ r ≡ keyAt (now (img .entry)) n w s ⌝ }
 {
-    img[3 + Header::WORDS * n + w * s]
+    img[contents_at(n, w, s)]
 }
 
 // The first `k` words of `src`, stored in `dst` from `b` on.
@@ -24,21 +34,20 @@ pub fn store_words(dst: &mut [u32], b: usize, src: &[u32], k: usize)
     }
 }
 
-// A line of W words becomes the contents of a slot.
-pub fn set_contents(img: &mut [u32], n: usize, w: usize, s: usize, line: &[u32])
-    requires { ⌜ SlotLine (now img) n w s (now line) ⌝ }
-    ensures { λ _. ⌜ now (img .exit) ≡ setContents (now (img .entry)) n w s (now (line .entry)) ⌝ }
+// W words become the contents of a slot.
+pub fn set_contents(img: &mut [u32], n: usize, w: usize, s: usize, words: &[u32])
+    requires { ⌜ SlotLine (now img) n w s (now words) ⌝ }
+    ensures { λ _. ⌜ now (img .exit) ≡ storeLine (now (img .entry)) (contentsLine n w s (now (words .entry))) ⌝ }
 {
-    let b = 3 + Header::WORDS * n + w * s;
-    store_words(img, b, line, w);
+    store_words(img, contents_at(n, w, s), words, w);
 }
 
 // A slot's contents, from one image to the other: the words go as a part of the source that starts in its middle.
 pub fn copy_contents(src: &[u32], dst: &mut [u32], n: usize, w: usize, s: usize)
     requires { ⌜ Slots (now src) (now dst) n w s ⌝ }
-    ensures { λ _. ⌜ now (dst .exit) ≡ setContents (now (dst .entry)) n w s (contents (now (src .entry)) n w s) ⌝ }
+    ensures { λ _. ⌜ now (dst .exit) ≡ storeLine (now (dst .entry)) (contentsLine n w s (contents (now (src .entry)) n w s)) ⌝ }
 {
-    let b = 3 + Header::WORDS * n + w * s;
+    let b = contents_at(n, w, s);
     let e = b + w;
     set_contents(dst, n, w, s, &src[b..e]);
 }

@@ -1,6 +1,8 @@
 // A header (01: a mark): its kinds, its constructors, its readers and its writer.
 ghost use mathlib.Core.Path.{_≡_};
-ghost use Rattle.image.specs.Layout.{HeaderFits, kindAt, header, setHeader, headerOf, freeHeader, freshHeader, updatedHeader, antiHeader, filledKind, payloadKind};
+ghost use Rattle.image.specs.Layout.{kindAt, header, freeHeader, freshHeader, updatedHeader, antiHeader, filledKind, payloadKind};
+ghost use Rattle.image.specs.Line.{headerLine, storeLine};
+ghost use Rattle.image.specs.Requires.{HeaderFits};
 
 pub struct Header {
     pub kind: u32,
@@ -87,7 +89,7 @@ pub fn header_at(img: &[u32], n: usize, s: usize) -> Header
 
 pub fn set_header(img: &mut [u32], n: usize, s: usize, h: Header)
     requires { ⌜ HeaderFits (now img) n s ⌝ }
-    ensures { λ _. ⌜ now (img .exit) ≡ setHeader (now (img .entry)) s h ⌝ }
+    ensures { λ _. ⌜ now (img .exit) ≡ storeLine (now (img .entry)) (headerLine s h) ⌝ }
 {
     let b = 3 + Header::WORDS * s;
     img[b] = h.kind;

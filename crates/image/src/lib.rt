@@ -3,4 +3,5 @@
 pub mod bytes;
 pub mod contents;
 pub mod header;
+pub mod name;
 pub mod shape;

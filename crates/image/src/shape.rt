@@ -3,7 +3,15 @@ use crate::header::Header;
 ghost use mathlib.Core.Path.{_≡_};
 ghost use Prim.Native.Nat.{_≤_, _<_, _^_};
 ghost use lib.ListN.{length};
-ghost use Rattle.image.specs.Layout.{Sizes, sizesOk, shapeOk, imageWords, clockOf, clockOk, setClock};
+ghost use Rattle.image.specs.Layout.{sizesOk, shapeOk, imageWords, clockOf, clockOk};
+ghost use Rattle.image.specs.Line.{clockLine, storeLine};
+ghost use Rattle.image.specs.Requires.{InRange};
+
+// The largest N.
+pub const MOST_SLOTS: usize = 1024;
+
+// The largest clock, and the largest uid.
+pub const MOST_NUMBER: u32 = 4000000000;
 
 // A word as a size.
 pub fn wide(x: u32) -> usize
@@ -27,7 +35,7 @@ pub fn sizes_ok(n: usize, w: usize) -> bool
     if n < 2 {
         return false;
     }
-    if 1024 < n {
+    if MOST_SLOTS < n {
         return false;
     }
     if w < 2 {
@@ -38,7 +46,7 @@ pub fn sizes_ok(n: usize, w: usize) -> bool
 
 // How many words an image of these sizes has.
 pub fn image_words(n: usize, w: usize) -> usize
-    requires { ⌜ Sizes n w ⌝ }
+    requires { ⌜ InRange n w ⌝ }
     ensures { λ r. ⌜ r ≡ imageWords n w ⌝ }
 {
     3 + Header::WORDS * n + w * n
@@ -68,7 +76,7 @@ pub fn clock(img: &[u32]) -> u32
 
 pub fn set_clock(img: &mut [u32], c: u32)
     requires { ⌜ 3 ≤ length (now img) ⌝ }
-    ensures { λ _. ⌜ now (img .exit) ≡ setClock (now (img .entry)) c ⌝ }
+    ensures { λ _. ⌜ now (img .exit) ≡ storeLine (now (img .entry)) (clockLine c) ⌝ }
 {
     img[2] = c;
 }
@@ -79,5 +87,5 @@ pub fn clock_ok(c: u32) -> bool
     if c < 2 {
         return false;
     }
-    c <= 4000000000
+    c <= MOST_NUMBER
 }

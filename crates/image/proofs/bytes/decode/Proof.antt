@@ -1,8 +1,8 @@
 -- `decode`: the loop has stored i of the k words (`Storing`).
 use borrow.Author.Needs.{needs}
-use Rattle.image.specs.Code.{laws}
+use Rattle.image.specs.Exits.{laws}
 use Prim.Native.Nat.{_-_}
-use Rattle.image.specs.Code.{Storing}
+use Rattle.image.specs.Storing.{Storing}
 use Rattle.image.specs.Bytes.{wordsOf}
 use Rattle.image.proofs.bytes.decode.Statement.{statement}
 use Rattle.image.proofs.bytes.decode.Tie as tie

@@ -1,9 +1,9 @@
 -- `clear`: the loop has cleared j words (`Clearing`).
 use borrow.Author.Needs.{needs}
-use Rattle.image.specs.Code.{laws}
+use Rattle.image.specs.Exits.{laws}
 use Prim.Native.Nat.{_-_}
 use lib.ListN.{length}
-use Rattle.image.specs.Code.{Clearing}
+use Rattle.image.specs.Storing.{Clearing}
 use Rattle.image.proofs.contents.clear.Statement.{statement}
 use Rattle.image.proofs.contents.clear.Tie as tie
 

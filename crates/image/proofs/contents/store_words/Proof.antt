@@ -1,8 +1,8 @@
 -- `store_words`: the loop has stored j of the k words (`Storing`).
 use borrow.Author.Needs.{needs}
-use Rattle.image.specs.Code.{laws}
+use Rattle.image.specs.Exits.{laws}
 use Prim.Native.Nat.{_-_}
-use Rattle.image.specs.Code.{Storing}
+use Rattle.image.specs.Storing.{Storing}
 use Rattle.image.proofs.contents.store_words.Statement.{statement}
 use Rattle.image.proofs.contents.store_words.Tie as tie
 

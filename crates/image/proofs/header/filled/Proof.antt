@@ -1,6 +1,6 @@
 -- `filled`: by the tests on the way.
 use borrow.Author.Needs.{needs}
-use Rattle.image.specs.Code.{laws}
+use Rattle.image.specs.Exits.{laws}
 use Rattle.image.specs.Layout.{filledKind}
 use Rattle.image.proofs.header.filled.Statement.{statement}
 use Rattle.image.proofs.header.filled.Tie as tie

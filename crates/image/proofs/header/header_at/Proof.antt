@@ -1,6 +1,6 @@
 -- `header_at`: each way out is a law.
 use borrow.Author.Needs.{needs}
-use Rattle.image.specs.Code.{laws}
+use Rattle.image.specs.Exits.{laws}
 use Rattle.image.proofs.header.header_at.Statement.{statement}
 use Rattle.image.proofs.header.header_at.Tie as tie
 

@@ -1,6 +1,6 @@
 -- `payload`: by the tests on the way.
 use borrow.Author.Needs.{needs}
-use Rattle.image.specs.Code.{laws}
+use Rattle.image.specs.Exits.{laws}
 use Rattle.image.specs.Layout.{payloadKind}
 use Rattle.image.proofs.header.payload.Statement.{statement}
 use Rattle.image.proofs.header.payload.Tie as tie

@@ -2,7 +2,7 @@
 use borrow.Author.Needs.{needs}
 use lib.ListN.{length-set}
 use native.Mathlib.Omega.{arith}
-use Rattle.image.specs.Code.{laws}
+use Rattle.image.specs.Exits.{laws}
 use Rattle.image.proofs.header.set_header.Statement.{statement}
 use Rattle.image.proofs.header.set_header.Tie as tie
 

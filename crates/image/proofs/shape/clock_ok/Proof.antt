@@ -1,6 +1,6 @@
 -- `clock_ok`: by the tests on the way.
 use borrow.Author.Needs.{needs}
-use Rattle.image.specs.Code.{laws}
+use Rattle.image.specs.Exits.{laws}
 use Rattle.image.specs.Layout.{clockOk}
 use Rattle.image.proofs.shape.clock_ok.Statement.{statement}
 use Rattle.image.proofs.shape.clock_ok.Tie as tie

@@ -1,6 +1,6 @@
 -- `image_words`: each way out is a law.
 use borrow.Author.Needs.{needs}
-use Rattle.image.specs.Code.{laws}
+use Rattle.image.specs.Exits.{laws}
 use Rattle.image.proofs.shape.image_words.Statement.{statement}
 use Rattle.image.proofs.shape.image_words.Tie as tie
 

@@ -1,18 +1,19 @@
 -- `set_clock`: one store.
 use borrow.Author.Needs.{needs}
-use Rattle.image.specs.Code.{laws}
-use Rattle.image.specs.Layout.{setClock}
+use Rattle.image.specs.Exits.{laws}
 use Rattle.image.proofs.shape.set_clock.Statement.{statement}
 use Rattle.image.proofs.shape.set_clock.Tie as tie
 
-returns : tie.Need-returns
-unfolding setClock
-returns c = search (needs, laws)
+slice-write-img : tie.Need-slice-write-img
+slice-write-img c = search needs
+
+same-length : tie.Need-same-length
+same-length c = search needs
 
 pub set-clock-spec : {M : Type 1} → statement M
 set-clock-spec =
     tie.close
     (tie.spec
-    (λ c. search (needs, laws))
-    (λ c. search (needs, laws))
-    returns)
+    slice-write-img
+    same-length
+    (λ c. search (needs, laws)))

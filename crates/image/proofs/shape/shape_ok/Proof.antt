@@ -1,6 +1,6 @@
 -- `shape_ok`: each way out is a law.
 use borrow.Author.Needs.{needs}
-use Rattle.image.specs.Code.{laws}
+use Rattle.image.specs.Exits.{laws}
 use Rattle.image.proofs.shape.shape_ok.Statement.{statement}
 use Rattle.image.proofs.shape.shape_ok.Tie as tie
 

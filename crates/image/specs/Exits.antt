@@ -1,0 +1,115 @@
+-- The ways out of this crate's functions: a law for each, and for each call.
+use Prim.Native.Nat.{ℕ, _+_, _*_, _-_, _≤_, _<_}
+use mathlib.Core.Path.{_≡_, refl, sym, ap, _∙_}
+use mathlib.Core.List.{List, [], _∷_}
+use mathlib.Core.Bool.{Bool, true, false}
+use mathlib.Core.Logic.{⊎-elim}
+use lib.ListN.{length, getD, set, take, drop}
+use lib.Dec.{eqb}
+use native.Mathlib.Omega.{arith}
+use mir.Val.{Fits}
+use mir.Syntax.{w64}
+use Rattle.search.specs.Bools.{cases, tests}
+use Rattle.image.specs.declared.header.Header.{Header}
+use Rattle.image.specs.Layout.{headerAt, contentsAt, imageWords, headerOf, kindAt, epochAt, uidAt, header, contents, keyAt, slotsOf, widthOf, sizesOk, shapeOk}
+use Rattle.image.specs.Line.{headerLine, contentsLine, clockLine, stored, storeLine}
+use Rattle.image.specs.Name.{jobName, nameAt, sameName}
+use Rattle.image.specs.Requires.{InRange, Slot, SlotOf, Slots, SlotLine, slot, header-fits, slot-of}
+use Rattle.image.specs.Bytes.{wordsOf, Byte, InWords, Decodes, words-at}
+use Rattle.image.specs.Laws.{area-top, sizes-true, shaped, length-contents}
+use Rattle.image.specs.Storing.{storings}
+
+-- ---- headers
+pub header-is : (l : List ℕ) (s : ℕ) → headerOf (kindAt l s) (epochAt l s) (uidAt l s) ≡ header l s
+unfolding header
+header-is l s = refl
+
+pub header-stored : (l : List ℕ) (s : ℕ) (h : Header)
+    → set (set (set l (headerAt s) (h .kind)) (headerAt s + 1) (h .epoch)) (headerAt s + 2) (h .uid) ≡ storeLine l (headerLine s h)
+unfolding storeLine stored
+header-stored l s h = let first : headerAt s + 0 ≡ headerAt s = omega arith in rw first
+
+-- ---- contents
+pub contents-fits : {n w s : ℕ} → SlotOf n w s → Fits w64 (w * s)
+contents-fits z = omega (arith, z .room, area-top (z .sizes))
+
+pub contents-top : {n w s : ℕ} → SlotOf n w s → Fits w64 (contentsAt n w s)
+contents-top z = omega (arith, z .room, area-top (z .sizes), z .sizes .slots-hi)
+
+pub key-in : (l : List ℕ) (n w s : ℕ) {b : ℕ} → Slot l n w s → b ≡ contentsAt n w s → b < length l
+key-in l n w s z e = omega (arith, z .room, z .sized .long, z .sized .sizes .width-lo)
+
+pub key-is : (l : List ℕ) (n w s : ℕ) {b : ℕ} → b ≡ contentsAt n w s → getD l b 0 ≡ keyAt l n w s
+unfolding keyAt
+key-is l n w s e = rw e
+
+pub line-room : {l words : List ℕ} {n w s b : ℕ} → SlotLine l n w s words → b ≡ contentsAt n w s → b + w ≤ length l
+line-room z e = omega (arith, z .slot .room, z .slot .sized .long)
+
+pub line-slot : {l words : List ℕ} {n w s : ℕ} → SlotLine l n w s words → SlotOf n w s
+line-slot z = slot-of (z .slot)
+
+pub contents-stored : {l words : List ℕ} {n w s b : ℕ} {l′ : List ℕ} → SlotLine l n w s words → b ≡ contentsAt n w s → l′ ≡ stored l b words w → l′ ≡ storeLine l (contentsLine n w s words)
+unfolding storeLine
+contents-stored {l} {words} {n} {w} {s} z at e = rw (z .long, ← at) e
+
+-- the part of an image that is a slot's contents
+part-is : (l : List ℕ) (n w s : ℕ) {b : ℕ} → b ≡ contentsAt n w s → take (b + w - b) (drop b l) ≡ contents l n w s
+unfolding contents
+part-is l n w s {b} at = let e : b + w - b ≡ w = omega arith in rw (e, at)
+
+pub part-end : {a d : List ℕ} {n w s b : ℕ} → Slots a d n w s → b ≡ contentsAt n w s → b + w ≤ length a
+part-end z e = omega (arith, z .first .room, z .first .sized .long)
+
+pub part-slot : {a d : List ℕ} {n w s : ℕ} → Slots a d n w s → SlotOf n w s
+part-slot z = slot-of (z .first)
+
+pub part-line : {a d : List ℕ} {n w s b : ℕ} → Slots a d n w s → b ≡ contentsAt n w s → SlotLine d n w s (take (b + w - b) (drop b a))
+part-line {a} {d} {n} {w} {s} z e = record { slot = z .second; long = rw (part-is a n w s e) (length-contents (z .first)) }
+
+pub part-copied : (a d : List ℕ) (n w s : ℕ) {b : ℕ} {d′ : List ℕ} → b ≡ contentsAt n w s → d′ ≡ storeLine d (contentsLine n w s (take (b + w - b) (drop b a)))
+    → d′ ≡ storeLine d (contentsLine n w s (contents a n w s))
+part-copied a d n w s e h = h ∙ ap (λ (x : List ℕ). storeLine d (contentsLine n w s x)) (part-is a n w s e)
+
+-- ---- names
+pub name-is : (l : List ℕ) (n w s key : ℕ) {k : ℕ} → k ≡ keyAt l n w s → eqb k key ≡ sameName (nameAt l n w s) (jobName key)
+unfolding sameName nameAt
+name-is l n w s key e = rw e
+
+-- ---- the clock
+pub clock-stored : (l : List ℕ) (c : ℕ) → set l 2 c ≡ storeLine l (clockLine c)
+unfolding storeLine stored
+clock-stored l c = refl
+
+-- ---- shape
+pub area-fits : (n w : ℕ) → InRange n w → Fits w64 (w * n)
+area-fits n w z = omega (arith, area-top z)
+
+pub whole-fits : (n w : ℕ) → InRange n w → Fits w64 (3 + 3 * n + w * n)
+whole-fits n w z = omega (arith, area-top z)
+
+pub shape-short : (l : List ℕ) → length l < 3 → false ≡ shapeOk l
+shape-short l h =
+    ⊎-elim
+    (λ (t : shapeOk l ≡ true). let z = shaped l t in absurd (omega arith))
+    (λ (f : shapeOk l ≡ false). sym f)
+    (cases (shapeOk l))
+
+module _ (l : List ℕ) {n w : ℕ} {r : Bool} (slots : n ≡ slotsOf l) (width : w ≡ widthOf l) (ok : r ≡ sizesOk n w) where
+  pub shape-sizes : r ≡ false → false ≡ shapeOk l
+  unfolding shapeOk
+  shape-sizes f = rw (← slots, ← width, ← ok, f)
+
+  pub shape-long : {k : ℕ} → r ≡ true → k ≡ imageWords n w → eqb (length l) k ≡ shapeOk l
+  unfolding shapeOk
+  shape-long t e = rw (← slots, ← width, ← ok, t, ← e)
+
+-- ---- bytes
+pub word-made : (bytes : List ℕ) (k i : ℕ) {a b c d : ℕ} → InWords bytes k i → Byte (getD bytes (4 * i) 0) a → Byte (getD bytes (4 * i + 1) 0) b
+    → Byte (getD bytes (4 * i + 2) 0) c → Byte (getD bytes (4 * i + 3) 0) d → a + 256 * b + 65536 * c + 16777216 * d ≡ getD (wordsOf bytes) i 0
+word-made bytes k i z a b c d = rw (a .same, b .same, c .same, d .same) (words-at k bytes i (z .whole) (z .below))
+
+pub in-words : {bytes words : List ℕ} {k i : ℕ} → Decodes bytes words k → i < k → InWords bytes k i
+in-words z h = record { whole = z .whole; below = h }
+
+pub ruleset laws = (tests, storings, slot, header-fits, slot-of, header-is, header-stored, contents-fits, contents-top, key-in, key-is, line-room, line-slot, contents-stored, part-end, part-slot, part-line, part-copied, name-is, clock-stored, area-fits, whole-fits, sizes-true, shape-short, shape-sizes, shape-long, in-words, word-made)

@@ -1,0 +1,48 @@
+-- The name of a job: one definition, and one test with its laws.
+use Prim.Native.Nat.{ℕ}
+use mathlib.Core.Path.{_≡_}
+use mathlib.Core.Logic.{_≢_}
+use mathlib.Core.Bool.{Bool, true, false}
+use mathlib.Core.List.{List}
+use lib.Dec.{eqb}
+use borrow.Author.Tests.{eqb-true, eqb-false, eq-eqb, ne-eqb}
+use Rattle.image.specs.declared.header.Header.{Header}
+use Rattle.image.specs.Layout.{header, keyAt}
+
+-- 01: "The board is a map from job number (key)": a job's name is its key
+abbrev pub Name : Type 0
+Name = ℕ
+
+abbrev pub jobName : ℕ → Name
+jobName key = key
+
+-- "Keys .. are never 0"
+abbrev pub keyOf : Name → ℕ
+keyOf name = name
+
+-- the name of what a slot holds, by its header and its key
+abbrev pub nameOf : Header → ℕ → Name
+nameOf h key = key
+
+unfoldable pub nameAt : List ℕ → ℕ → ℕ → ℕ → Name
+nameAt l n w s = nameOf (header l s) (keyAt l n w s)
+
+unfoldable pub sameName : Name → Name → Bool
+sameName a b = eqb a b
+
+-- ---- the test says that they are the same
+pub same-name : (a b : Name) → sameName a b ≡ true → a ≡ b
+unfolding sameName
+same-name a b e = eqb-true a b e
+
+pub name-same : (a b : Name) → a ≡ b → sameName a b ≡ true
+unfolding sameName
+name-same a b e = eq-eqb a b e
+
+pub other-name : (a b : Name) → sameName a b ≡ false → a ≢ b
+unfolding sameName
+other-name a b e = eqb-false a b e
+
+pub name-other : (a b : Name) → a ≢ b → sameName a b ≡ false
+unfolding sameName
+name-other a b e = ne-eqb a b e
