@@ -16,7 +16,6 @@ Name = ℕ
 abbrev pub jobName : ℕ → Name
 jobName key = key
 
--- "Keys .. are never 0"
 abbrev pub keyOf : Name → ℕ
 keyOf name = name
 
@@ -30,7 +29,11 @@ nameAt l n w s = nameOf (header l s) (keyAt l n w s)
 unfoldable pub sameName : Name → Name → Bool
 sameName a b = eqb a b
 
--- ---- the test says that they are the same
+-- "Keys .. are never 0"
+unfoldable pub unnamed : Name → Bool
+unnamed name = eqb (keyOf name) 0
+
+-- ---- the tests say what they ask
 pub same-name : (a b : Name) → sameName a b ≡ true → a ≡ b
 unfolding sameName
 same-name a b e = eqb-true a b e
@@ -46,3 +49,15 @@ other-name a b e = eqb-false a b e
 pub name-other : (a b : Name) → a ≢ b → sameName a b ≡ false
 unfolding sameName
 name-other a b e = ne-eqb a b e
+
+pub unnamed-true : (a : Name) → unnamed a ≡ true → keyOf a ≡ 0
+unfolding unnamed
+unnamed-true a e = eqb-true (keyOf a) 0 e
+
+pub unnamed-false : (a : Name) → unnamed a ≡ false → keyOf a ≢ 0
+unfolding unnamed
+unnamed-false a e = eqb-false (keyOf a) 0 e
+
+pub named-not : (a : Name) → keyOf a ≢ 0 → unnamed a ≡ false
+unfolding unnamed
+named-not a e = ne-eqb (keyOf a) 0 e

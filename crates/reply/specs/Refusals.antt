@@ -4,14 +4,14 @@ use mathlib.Core.Path.{_≡_, refl}
 use native.Mathlib.Omega.{arith}
 use mathlib.Core.Bool.{Bool, true, false, cond}
 use Rattle.reply.specs.declared.Refusal.{Refusal}
-use Rattle.reply.specs.declared.Refusal.the-variants.{Sizes, Clock, BadSlot, Duplicate, NoThread, AlreadyOpen, NotOpen, BadArgument, Newer, NoJob, JobExists, NoUid, Full, StillOpen, LastEpoch, NoLine}
+use Rattle.reply.specs.declared.Refusal.the-variants.{BadSizes, BadClock, BadSlot, Duplicate, NoThread, AlreadyOpen, NotOpen, BadArgument, Newer, NoJob, JobExists, NoUid, Full, StillOpen, LastEpoch, NoLine}
 use Rattle.reply.specs.declared.Check.{Check}
 use Rattle.reply.specs.declared.Check.the-variants.{Accepted, Refused}
 
 -- 01, "Where each call can decline": the column "No."
 abbrev pub refusalNumber : Refusal → ℕ
-refusalNumber Sizes = 1
-refusalNumber Clock = 2
+refusalNumber BadSizes = 1
+refusalNumber BadClock = 2
 refusalNumber BadSlot = 3
 refusalNumber Duplicate = 4
 refusalNumber NoThread = 5

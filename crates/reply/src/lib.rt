@@ -5,9 +5,9 @@ ghost use Rattle.reply.specs.Refusals.{refusalNumber, declinedNumber};
 // One case for each number of 01's table "Where each call can decline".
 pub enum Refusal {
     // N, W or T out of range, a wrong length, or a note that names no slot
-    Sizes,
+    BadSizes,
     // a clock out of range, unequal clocks, or a wrong open epoch
-    Clock,
+    BadClock,
     // a header neither free nor proper, or a survivor with key 0
     BadSlot,
     // two kept slots equal in uid and epoch, or two survivors of one key
@@ -40,8 +40,8 @@ pub fn number(r: Refusal) -> u32
     ensures { λ k. ⌜ k ≡ refusalNumber r ⌝ }
 {
     match r {
-        Refusal::Sizes => 1,
-        Refusal::Clock => 2,
+        Refusal::BadSizes => 1,
+        Refusal::BadClock => 2,
         Refusal::BadSlot => 3,
         Refusal::Duplicate => 4,
         Refusal::NoThread => 5,
