@@ -7,22 +7,22 @@ use lib.Dec.{leb, ltb, eqb}
 use Rattle.search.specs.Some.{every}
 use Rattle.reply.specs.declared.Check.{Check}
 use Rattle.reply.specs.declared.Check.the-variants.{Accepted}
-use Rattle.reply.specs.declared.Refusal.the-variants.{Sizes, Clock}
+use Rattle.reply.specs.declared.Refusal.the-variants.{BadSizes, BadClock}
 use Rattle.reply.specs.Refusals.{refuse}
-use Rattle.image.specs.Layout.{slotsOf, widthOf, clockOf, shapeOk, clockOk}
-use Rattle.transient.specs.Store.{Store}
-use Rattle.transient.specs.Layout.{threadsOf, threadsOk, lastTaken, nextUidOf, placeSlot, openEpoch}
+use Rattle.image.specs.Layout.{mostNumber, slotsOf, widthOf, clockOf, shapeOk, clockOk}
+use Rattle.transient.specs.Layout.{threadsOk, notedSlots, lastTaken, nextUidOf, placeSlot, openEpoch}
+use Rattle.transient.specs.Store.{Store, tableOf, sizesOf}
 
 -- 1: "N, W or T outside its range; image length wrong; the images or notes differ in sizes;"
 unfoldable pub imagesFit : List ℕ → List ℕ → Bool
 imagesFit wk l = shapeOk wk && (shapeOk l && (eqb (slotsOf l) (slotsOf wk) && eqb (widthOf l) (widthOf wk)))
 
 unfoldable pub uidOk : ℕ → Bool
-uidOk u = leb 1 u && leb u 4000000001
+uidOk u = leb 1 u && leb u (mostNumber + 1)
 
 -- "a note naming a slot not below N, or a next uid outside 1 to 4,000,000,001"
 unfoldable pub notesFit : List ℕ → ℕ → Bool
-notesFit tr n = ltb (lastTaken tr) n && (ltb (placeSlot tr) n && uidOk (nextUidOf tr))
+notesFit tr n = eqb (notedSlots tr) n && (ltb (lastTaken tr) n && (ltb (placeSlot tr) n && uidOk (nextUidOf tr)))
 
 unfoldable pub sizesFit : List ℕ → List ℕ → List ℕ → Bool
 sizesFit wk l tr = imagesFit wk l && (threadsOk (length tr) (slotsOf wk) && notesFit tr (slotsOf wk))
@@ -38,11 +38,7 @@ opensOk tr t c = every (λ thread. openOk c (openEpoch tr thread)) t
 unfoldable pub clocksFit : List ℕ → List ℕ → List ℕ → ℕ → Bool
 clocksFit wk l tr t = clockOk (clockOf wk) && (eqb (clockOf l) (clockOf wk) && opensOk tr t (clockOf wk))
 
--- the threads of a store
-abbrev pub threads : Store → ℕ
-threads st = threadsOf (length (st .transient)) (slotsOf (st .working))
-
 unfoldable pub entryCheck : Store → Check
 entryCheck st =
-    refuse (not (sizesFit (st .working) (st .persistent) (st .transient))) Sizes
-    (refuse (not (clocksFit (st .working) (st .persistent) (st .transient) (threads st))) Clock Accepted)
+    refuse (not (sizesFit (st .working) (st .persistent) (st .transient))) BadSizes
+    (refuse (not (clocksFit (st .working) (st .persistent) (st .transient) (sizesOf (tableOf st) .t))) BadClock Accepted)

@@ -1,6 +1,6 @@
--- Get/set laws of the notes: each reader after each writer.
+-- Get/set laws of the notes, by name: what each writer leaves in its own note, and that the other notes stay.
 use Prim.Native.Nat.{ℕ, _+_, _%_, _≤_, _<_}
-use mathlib.Core.Path.{_≡_, _∙_}
+use mathlib.Core.Path.{_≡_, _∙_, ap}
 use mathlib.Core.Logic.{_≢_, _⊎_, inl, inr, ⊎-elim}
 use mathlib.Core.Bool.{true, false}
 use mathlib.Core.List.{List}
@@ -9,11 +9,14 @@ use lib.Seq.{getD-set-same, getD-set-other}
 use lib.Dec.{eqb}
 use borrow.Author.Tests.{eq-eqb, ne-eqb, eqb-true, eqb-false}
 use native.Mathlib.Omega.{arith}
+use native.Mathlib.Decide.{ℕ-discrete}
 use Rattle.search.specs.Bools.{cases}
 use Rattle.image.specs.Laws.{length-stored, stored-outside, stored-inside}
-use Rattle.transient.specs.Layout.{nextUidOf, placePhase, placeSlot, openEpoch, retiredIn, listBase, waitingAt, setLast, setNextUid, setOpen, setRetired, setWaiting, setPlace, emptied, Notes}
+use Rattle.transient.specs.declared.sizes.Sizes.{Sizes}
+use Rattle.transient.specs.Layout.{lastAt, nextUidAt, phaseAt, placeAt, headWords, openAt, retiredAt, listBase, waitingAt, lastTaken, nextUidOf, placePhase, placeSlot, openEpoch, retiredIn, isWaiting, setLast, setNextUid, setOpen, setRetired, setWaiting, setPlace, emptied}
+use Rattle.transient.specs.Requires.{Notes}
 
--- a list's flags lie within the notes
+-- ---- the two lists
 pub base-top : (n e : ℕ) → listBase n e ≤ n
 unfolding listBase
 base-top n e =
@@ -22,47 +25,13 @@ base-top n e =
     (λ (f : eqb (e % 2) 0 ≡ false). rw f (omega arith))
     (cases (eqb (e % 2) 0))
 
--- ---- lengths
-module _ (tr : List ℕ) where
-  pub length-setLast : (s : ℕ) → length (setLast tr s) ≡ length tr
-  unfolding setLast
-  length-setLast s = length-set tr 0 s
-
-  pub length-setNextUid : (u : ℕ) → length (setNextUid tr u) ≡ length tr
-  unfolding setNextUid
-  length-setNextUid u = length-set tr 1 u
-
-  pub length-setOpen : (thread e : ℕ) → length (setOpen tr thread e) ≡ length tr
-  unfolding setOpen
-  length-setOpen thread e = length-set tr (4 + thread) e
-
-  pub length-setRetired : (t s e : ℕ) → length (setRetired tr t s e) ≡ length tr
-  unfolding setRetired
-  length-setRetired t s e = length-set tr (4 + t + s) e
-
-  pub length-setWaiting : (n t e s : ℕ) → length (setWaiting tr n t e s) ≡ length tr
-  unfolding setWaiting
-  length-setWaiting n t e s = length-set tr (waitingAt n t e s) 1
-
-  pub length-setPlace : (phase slot : ℕ) → length (setPlace tr phase slot) ≡ length tr
-  unfolding setPlace
-  length-setPlace phase slot = length-set (set tr 2 phase) 3 slot ∙ length-set tr 2 phase
-
-  pub length-emptied : (n t e : ℕ) → length (emptied tr n t e) ≡ length tr
-  unfolding emptied
-  length-emptied n t e = length-stored tr (waitingAt n t e 0) (replicate n 0) n
-
-pub notes-after : {tr tr′ : List ℕ} {n t : ℕ} → length tr′ ≡ length tr → Notes tr n t → Notes tr′ n t
-notes-after e z = record { long = e ∙ z .long; slots-hi = z .slots-hi; threads-hi = z .threads-hi }
-
--- ---- the two lists
 -- a list is that of every second epoch
-pub base-again : (n e : ℕ) → listBase n (e + 2) ≡ listBase n e
+base-again : (n e : ℕ) → listBase n (e + 2) ≡ listBase n e
 unfolding listBase
 base-again n e = let q : (e + 2) % 2 ≡ e % 2 = omega arith in rw q
 
 -- the lists of two neighbours are two
-pub base-cases : (n e : ℕ) → ((listBase n e ≡ 0) × (listBase n (e + 1) ≡ n)) ⊎ ((listBase n e ≡ n) × (listBase n (e + 1) ≡ 0))
+base-cases : (n e : ℕ) → ((listBase n e ≡ 0) × (listBase n (e + 1) ≡ n)) ⊎ ((listBase n e ≡ n) × (listBase n (e + 1) ≡ 0))
 unfolding listBase
 base-cases n e =
     ⊎-elim
@@ -70,64 +39,195 @@ base-cases n e =
     (λ (f : eqb (e % 2) 0 ≡ false). let z = eqb-false (e % 2) 0 f in let o : (e + 1) % 2 ≡ 0 = omega arith in inr (rw f, rw (eq-eqb ((e + 1) % 2) 0 o)))
     (cases (eqb (e % 2) 0))
 
--- ---- words: each writer changes its own and no other
--- a word below the waiting lists
-pub word-setLast : (tr : List ℕ) (s j : ℕ) → 1 ≤ j → getD (setLast tr s) j 0 ≡ getD tr j 0
-unfolding setLast
-word-setLast tr s j h = getD-set-other tr 0 j s 0 (λ q. omega arith)
+base-is : (n e : ℕ) → (listBase n e ≡ 0) ⊎ (listBase n e ≡ n)
+base-is n e = ⊎-elim (λ b. inl (b .0)) (λ b. inr (b .0)) (base-cases n e)
 
-pub word-setNextUid : (tr : List ℕ) (u j : ℕ) → j ≢ 1 → getD (setNextUid tr u) j 0 ≡ getD tr j 0
-unfolding setNextUid
-word-setNextUid tr u j h = getD-set-other tr 1 j u 0 h
+-- two slots' flags lie apart, in whichever lists
+flags-apart : (z : Sizes) (e d s m : ℕ) → s < z .n → m < z .n → m ≢ s → waitingAt z e m ≢ waitingAt z d s
+flags-apart z e d s m h k q p =
+    ⊎-elim (λ a. ⊎-elim (λ b. q (omega arith)) (λ b. omega arith) (base-is (z .n) d)) (λ a. ⊎-elim (λ b. omega arith) (λ b. q (omega arith)) (base-is (z .n) d)) (base-is (z .n) e)
 
-pub word-setOpen : (tr : List ℕ) (thread e j : ℕ) → j ≢ 4 + thread → getD (setOpen tr thread e) j 0 ≡ getD tr j 0
-unfolding setOpen
-word-setOpen tr thread e j h = getD-set-other tr (4 + thread) j e 0 h
+module _ (z : Sizes) (tr tr′ : List ℕ) (e m : ℕ) where
+  flag-same : getD tr′ (waitingAt z e m) 0 ≡ getD tr (waitingAt z e m) 0 → isWaiting z tr′ e m ≡ isWaiting z tr e m
+  unfolding isWaiting
+  flag-same q = rw q
 
-pub word-setRetired : (tr : List ℕ) (t s e j : ℕ) → j ≢ 4 + t + s → getD (setRetired tr t s e) j 0 ≡ getD tr j 0
-unfolding setRetired
-word-setRetired tr t s e j h = getD-set-other tr (4 + t + s) j e 0 h
+flag-one : (z : Sizes) (tr : List ℕ) (e m : ℕ) → getD tr (waitingAt z e m) 0 ≡ 1 → isWaiting z tr e m ≡ true
+unfolding isWaiting
+flag-one z tr e m q = rw q
 
-pub word-setWaiting : (tr : List ℕ) (n t e s j : ℕ) → j ≢ waitingAt n t e s → getD (setWaiting tr n t e s) j 0 ≡ getD tr j 0
-unfolding setWaiting
-word-setWaiting tr n t e s j h = getD-set-other tr (waitingAt n t e s) j 1 0 h
+flag-zero : (z : Sizes) (tr : List ℕ) (e m : ℕ) → getD tr (waitingAt z e m) 0 ≡ 0 → isWaiting z tr e m ≡ false
+unfolding isWaiting
+flag-zero z tr e m q = rw q
 
-pub word-setPlace : (tr : List ℕ) (phase slot j : ℕ) → j ≢ 2 → j ≢ 3 → getD (setPlace tr phase slot) j 0 ≡ getD tr j 0
-unfolding setPlace
-word-setPlace tr phase slot j h k = getD-set-other (set tr 2 phase) 3 j slot 0 k ∙ getD-set-other tr 2 j phase 0 h
+pub waiting-again : (z : Sizes) (tr : List ℕ) (e m : ℕ) → isWaiting z tr (e + 2) m ≡ isWaiting z tr e m
+unfolding isWaiting
+waiting-again z tr e m = rw (base-again (z .n) e)
 
-pub word-emptied : (tr : List ℕ) (n t e j : ℕ) → (j < waitingAt n t e 0) ⊎ (waitingAt n t e 0 + n ≤ j) → getD (emptied tr n t e) j 0 ≡ getD tr j 0
-unfolding emptied
-word-emptied tr n t e j h = stored-outside tr (waitingAt n t e 0) (replicate n 0) n j h
+-- ---- a frame: all words but the k from `at` on stay
+pub record Only (tr tr′ : List ℕ) (at k : ℕ) : Type 0 where
+  pub long : length tr′ ≡ length tr
+  pub words : (j : ℕ) → (j < at) ⊎ (at + k ≤ j) → getD tr′ j 0 ≡ getD tr j 0
 
--- ---- each writer's own word
-module _ {tr : List ℕ} {n t : ℕ} (z : Notes tr n t) where
+one-word : (tr : List ℕ) (i v : ℕ) → Only tr (set tr i v) i 1
+one-word tr i v = record { long = length-set tr i v; words = λ j o. getD-set-other tr i j v 0 (λ q. ⊎-elim (λ h. omega arith) (λ h. omega arith) o) }
+
+module _ (tr : List ℕ) where
+  pub last-only : (s : ℕ) → Only tr (setLast tr s) lastAt 1
+  unfolding setLast
+  last-only s = one-word tr lastAt s
+
+  pub uid-only : (u : ℕ) → Only tr (setNextUid tr u) nextUidAt 1
+  unfolding setNextUid
+  uid-only u = one-word tr nextUidAt u
+
+  pub open-only : (thread e : ℕ) → Only tr (setOpen tr thread e) (openAt thread) 1
+  unfolding setOpen
+  open-only thread e = one-word tr (openAt thread) e
+
+  pub place-only : (phase slot : ℕ) → Only tr (setPlace tr phase slot) phaseAt 2
+  unfolding setPlace
+  place-only phase slot =
+      let a = one-word tr phaseAt phase in
+      let b = one-word (set tr phaseAt phase) placeAt slot in
+      record {
+        long = b .long ∙ a .long;
+        words = λ j o. b .words j (⊎-elim (λ h. inl (omega arith)) (λ h. inr (omega arith)) o) ∙ a .words j (⊎-elim (λ h. inl h) (λ h. inr (omega arith)) o);
+      }
+
+  module _ (z : Sizes) where
+    pub retired-only : (s e : ℕ) → Only tr (setRetired z tr s e) (retiredAt z s) 1
+    unfolding setRetired
+    retired-only s e = one-word tr (retiredAt z s) e
+
+    pub waiting-only : (e s : ℕ) → Only tr (setWaiting z tr e s) (waitingAt z e s) 1
+    unfolding setWaiting
+    waiting-only e s = one-word tr (waitingAt z e s) 1
+
+    pub list-only : (e : ℕ) → Only tr (emptied z tr e) (waitingAt z e 0) (z .n)
+    unfolding emptied
+    list-only e =
+        record {
+          long = length-stored tr (waitingAt z e 0) (replicate (z .n) 0) (z .n);
+          words = λ j o. stored-outside tr (waitingAt z e 0) (replicate (z .n) 0) (z .n) j o;
+        }
+
+-- ---- by name: what is no slot's, and what is a slot's
+-- the threads' operations and the place
+pub record HeadKept (z : Sizes) (tr tr′ : List ℕ) : Type 0 where
+  pub long : length tr′ ≡ length tr
+  pub opens : (thread : ℕ) → thread < z .t → openEpoch tr′ thread ≡ openEpoch tr thread
+  pub phase : placePhase tr′ ≡ placePhase tr
+  pub slot : placeSlot tr′ ≡ placeSlot tr
+
+-- a slot's retirement, and whether it waits in each list
+pub record SlotKept (z : Sizes) (tr tr′ : List ℕ) (m : ℕ) : Type 0 where
+  pub retired : retiredIn z tr′ m ≡ retiredIn z tr m
+  pub waiting : (d : ℕ) → isWaiting z tr′ d m ≡ isWaiting z tr d m
+
+pub head-then : {z : Sizes} {a b c : List ℕ} → HeadKept z a b → HeadKept z b c → HeadKept z a c
+head-then x y =
+    record { long = y .long ∙ x .long; opens = λ u h. y .opens u h ∙ x .opens u h; phase = y .phase ∙ x .phase; slot = y .slot ∙ x .slot }
+
+pub slot-then : {z : Sizes} {a b c : List ℕ} {m : ℕ} → SlotKept z a b m → SlotKept z b c m → SlotKept z a c m
+slot-then x y = record { retired = y .retired ∙ x .retired; waiting = λ d. y .waiting d ∙ x .waiting d }
+
+module _ {tr tr′ : List ℕ} {at k : ℕ} (o : Only tr tr′ at k) where
+  -- what is written before the place or among the slots leaves the head
+  pub head-kept : (z : Sizes) → (at + k ≤ phaseAt) ⊎ (headWords + z .t ≤ at) → HeadKept z tr tr′
+  head-kept z c =
+      record {
+        long = o .long;
+        opens = λ u h. o .words (openAt u) (⊎-elim (λ q. inr (omega arith)) (λ q. inl (omega arith)) c);
+        phase = o .words phaseAt (⊎-elim (λ q. inr q) (λ q. inl (omega arith)) c);
+        slot = o .words placeAt (⊎-elim (λ q. inr (omega arith)) (λ q. inl (omega arith)) c);
+      }
+
+  -- what is written before the slots leaves every slot's
+  pub slot-kept : (z : Sizes) → at + k ≤ headWords + z .t → (m : ℕ) → SlotKept z tr tr′ m
+  slot-kept z h m =
+      record { retired = o .words (retiredAt z m) (inr (omega arith)); waiting = λ d. flag-same z tr tr′ d m (o .words (waitingAt z d m) (inr (omega arith))) }
+
+  pub uid-kept : (at + k ≤ nextUidAt) ⊎ (nextUidAt < at) → nextUidOf tr′ ≡ nextUidOf tr
+  uid-kept c = o .words nextUidAt (⊎-elim (λ q. inr q) (λ q. inl q) c)
+
+-- ---- each writer's own note
+module _ {tr : List ℕ} {z : Sizes} (y : Notes tr z) where
   pub uid-set : (u : ℕ) → nextUidOf (setNextUid tr u) ≡ u
   unfolding setNextUid
-  uid-set u = getD-set-same tr 1 u 0 (omega (arith, z .long))
+  uid-set u = getD-set-same tr nextUidAt u 0 (omega (arith, y .long))
 
   pub phase-set : (phase slot : ℕ) → placePhase (setPlace tr phase slot) ≡ phase
   unfolding setPlace
-  phase-set phase slot = getD-set-other (set tr 2 phase) 3 2 slot 0 (λ q. omega arith) ∙ getD-set-same tr 2 phase 0 (omega (arith, z .long))
+  phase-set phase slot = getD-set-other (set tr phaseAt phase) placeAt phaseAt slot 0 (λ q. omega arith) ∙ getD-set-same tr phaseAt phase 0 (omega (arith, y .long))
 
   pub slot-set : (phase slot : ℕ) → placeSlot (setPlace tr phase slot) ≡ slot
   unfolding setPlace
-  slot-set phase slot = getD-set-same (set tr 2 phase) 3 slot 0 (omega (arith, length-set tr 2 phase, z .long))
+  slot-set phase slot = getD-set-same (set tr phaseAt phase) placeAt slot 0 (omega (arith, length-set tr phaseAt phase, y .long))
 
-  pub open-same : (thread e : ℕ) → thread < t → openEpoch (setOpen tr thread e) thread ≡ e
+  -- an operation opened or ended: the other threads' stay
+  pub open-same : (thread e : ℕ) → thread < z .t → openEpoch (setOpen tr thread e) thread ≡ e
   unfolding setOpen
-  open-same thread e h = getD-set-same tr (4 + thread) e 0 (omega (arith, z .long))
+  open-same thread e h = getD-set-same tr (openAt thread) e 0 (omega (arith, y .long))
 
-  pub retired-same : (s e : ℕ) → s < n → retiredIn (setRetired tr t s e) t s ≡ e
+  pub open-other : (thread e u : ℕ) → u ≢ thread → openEpoch (setOpen tr thread e) u ≡ openEpoch tr u
+  unfolding setOpen
+  open-other thread e u d = getD-set-other tr (openAt thread) (openAt u) e 0 (λ q. d (omega arith))
+
+  -- a slot retired, or no longer: the other slots' notes stay, and all lists
+  pub retired-same : (s e : ℕ) → s < z .n → retiredIn z (setRetired z tr s e) s ≡ e
   unfolding setRetired
-  retired-same s e h = getD-set-same tr (4 + t + s) e 0 (omega (arith, z .long))
+  retired-same s e h = getD-set-same tr (retiredAt z s) e 0 (omega (arith, y .long))
 
-  pub waiting-same : (e s : ℕ) → s < n → getD (setWaiting tr n t e s) (waitingAt n t e s) 0 ≡ 1
+  pub retired-waiting : (s e d m : ℕ) → s < z .n → isWaiting z (setRetired z tr s e) d m ≡ isWaiting z tr d m
+  retired-waiting s e d m h = flag-same z tr (setRetired z tr s e) d m (retired-only tr z s e .words (waitingAt z d m) (inr (omega arith)))
+
+  pub retired-aside : (s e m : ℕ) → s < z .n → m ≢ s → SlotKept z tr (setRetired z tr s e) m
+  unfolding setRetired
+  retired-aside s e m h d =
+      record {
+        retired = getD-set-other tr (retiredAt z s) (retiredAt z m) e 0 (λ q. d (omega arith));
+        waiting = λ f. flag-same z tr (set tr (retiredAt z s) e) f m (getD-set-other tr (retiredAt z s) (waitingAt z f m) e 0 (λ q. omega arith));
+      }
+
+  -- a slot joins a list: it leaves none, and the other slots' notes stay
+  pub waiting-joined : (e s : ℕ) → s < z .n → isWaiting z (setWaiting z tr e s) e s ≡ true
   unfolding setWaiting
-  waiting-same e s h = getD-set-same tr (waitingAt n t e s) 1 0 (omega (arith, z .long, base-top n e))
+  waiting-joined e s h = flag-one z (set tr (waitingAt z e s) 1) e s (getD-set-same tr (waitingAt z e s) 1 0 (omega (arith, y .long, base-top (z .n) e)))
 
-  pub emptied-same : (e s : ℕ) → s < n → getD (emptied tr n t e) (waitingAt n t e s) 0 ≡ 0
+  pub waiting-stays : (e s d : ℕ) → s < z .n → isWaiting z tr d s ≡ true → isWaiting z (setWaiting z tr e s) d s ≡ true
+  unfolding setWaiting
+  waiting-stays e s d h k = elim (ℕ-discrete (waitingAt z d s) (waitingAt z e s)) [
+    | yes q ↦ flag-one z (set tr (waitingAt z e s) 1) d s (ap (λ i. getD (set tr (waitingAt z e s) 1) i 0) q ∙ getD-set-same tr (waitingAt z e s) 1 0 (omega (arith, y .long, base-top (z .n) e)))
+    | no q ↦ flag-same z tr (set tr (waitingAt z e s) 1) d s (getD-set-other tr (waitingAt z e s) (waitingAt z d s) 1 0 q) ∙ k
+  ]
+
+  pub waiting-retired : (e s m : ℕ) → m < z .n → retiredIn z (setWaiting z tr e s) m ≡ retiredIn z tr m
+  waiting-retired e s m h = waiting-only tr z e s .words (retiredAt z m) (inl (omega arith))
+
+  pub waiting-aside : (e s m : ℕ) → s < z .n → m < z .n → m ≢ s → SlotKept z tr (setWaiting z tr e s) m
+  unfolding setWaiting
+  waiting-aside e s m h k d =
+      record {
+        retired = getD-set-other tr (waitingAt z e s) (retiredAt z m) 1 0 (λ q. omega arith);
+        waiting = λ f. flag-same z tr (set tr (waitingAt z e s) 1) f m (getD-set-other tr (waitingAt z e s) (waitingAt z f m) 1 0 (flags-apart z f e s m h k d));
+      }
+
+  -- a list emptied: the other one stays, and so does what is retired
+  pub emptied-none : (e s : ℕ) → s < z .n → isWaiting z (emptied z tr e) e s ≡ false
   unfolding emptied
-  emptied-same e s h =
-      let at : waitingAt n t e s ≡ waitingAt n t e 0 + s = omega arith in
-      rw at (stored-inside tr (waitingAt n t e 0) (replicate n 0) n s h (omega (arith, z .long, base-top n e)) ∙ getD-replicate n s 0 0 h)
+  emptied-none e s h =
+      let at : waitingAt z e s ≡ waitingAt z e 0 + s = omega arith in
+      flag-zero z (stored-list e) e s
+      (rw at (stored-inside tr (waitingAt z e 0) (replicate (z .n) 0) (z .n) s h (omega (arith, y .long, base-top (z .n) e)) ∙ getD-replicate (z .n) s 0 0 h))
+    where
+      stored-list : ℕ → List ℕ
+      stored-list e = emptied z tr e
+
+  pub emptied-next : (e s : ℕ) → s < z .n → isWaiting z (emptied z tr e) (e + 1) s ≡ isWaiting z tr (e + 1) s
+  emptied-next e s h =
+      flag-same z tr (emptied z tr e) (e + 1) s
+      (list-only tr z e .words (waitingAt z (e + 1) s) (⊎-elim (λ b. inr (omega (arith, b .0, b .1))) (λ b. inl (omega (arith, b .0, b .1))) (base-cases (z .n) e)))
+
+  pub emptied-retired : (e m : ℕ) → m < z .n → retiredIn z (emptied z tr e) m ≡ retiredIn z tr m
+  emptied-retired e m h = list-only tr z e .words (retiredAt z m) (inl (omega arith))

@@ -1,5 +1,9 @@
 pub mod Layout
-pub mod Laws
 pub mod Store
 pub mod Entry
-pub mod Code
+pub mod Calls
+pub mod Requires
+pub mod Laws
+pub mod Clearing
+pub mod Passed
+pub mod Exits

@@ -6,7 +6,8 @@ ghost use Prim.Native.Nat.{_≤_};
 ghost use lib.ListN.{length};
 ghost use Rattle.transient.specs.Store.{store};
 ghost use Rattle.transient.specs.Entry.{imagesFit, uidOk, notesFit, sizesFit, openOk, opensOk, clocksFit, entryCheck};
-ghost use Rattle.transient.specs.Code.{Paired, sizesAlike, Threads, Fitting};
+ghost use Rattle.transient.specs.Layout.{headWords};
+ghost use Rattle.transient.specs.Requires.{Paired, sizesAlike, Threads, Fitting};
 
 // Do two images say the same sizes?
 fn alike(working: &[u32], persistent: &[u32]) -> bool
@@ -39,20 +40,23 @@ fn uid_ok(u: u32) -> bool
     if u < 1 {
         return false;
     }
-    u <= 4000000001
+    u <= image::shape::MOST_NUMBER + 1
 }
 
 fn notes_fit(transient: &[u32], n: usize) -> bool
-    requires { ⌜ 4 ≤ length (now transient) ⌝ }
+    requires { ⌜ headWords ≤ length (now transient) ⌝ }
     ensures { λ r. ⌜ r ≡ notesFit (now (transient .entry)) n ⌝ }
 {
-    if n <= image::shape::wide(transient[0]) {
+    if crate::notes::noted_slots(transient) != n {
         return false;
     }
-    if n <= image::shape::wide(transient[3]) {
+    if n <= crate::notes::last_taken(transient) {
         return false;
     }
-    uid_ok(transient[1])
+    if n <= crate::notes::place_slot(transient) {
+        return false;
+    }
+    uid_ok(crate::notes::next_uid(transient))
 }
 
 fn sizes_fit(working: &[u32], persistent: &[u32], transient: &[u32]) -> bool
@@ -88,7 +92,7 @@ fn opens_ok(transient: &[u32], t: usize, c: u32) -> bool
 {
     let mut thread = 0;
     while thread < t {
-        let e = transient[4 + thread];
+        let e = transient[crate::notes::HEAD + thread];
         if e == 0 {
             thread += 1;
             continue;
@@ -125,9 +129,9 @@ pub fn check(working: &[u32], persistent: &[u32], transient: &[u32]) -> Check
         if clocks_fit(working, persistent, transient, t) {
             Check::Accepted
         } else {
-            Check::Refused(Refusal::Clock)
+            Check::Refused(Refusal::BadClock)
         }
     } else {
-        Check::Refused(Refusal::Sizes)
+        Check::Refused(Refusal::BadSizes)
     }
 }

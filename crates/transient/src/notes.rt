@@ -1,17 +1,33 @@
 // The notes' readers and writers.
+use crate::sizes::Sizes;
 ghost use mathlib.Core.Path.{_≡_};
 ghost use Prim.Native.Nat.{_+_, _≤_, _<_};
 ghost use lib.ListN.{length, replicate};
-ghost use Rattle.image.specs.Layout.{stored};
-ghost use Rattle.transient.specs.Layout.{threadsOf, threadsOk, ThreadRoom, blank, Notes, NoteOf, ThreadOf, lastTaken, nextUidOf, placePhase, placeSlot, openEpoch, retiredIn, isWaiting, setLast, setNextUid, setOpen, setRetired, setWaiting, setPlace, emptied};
-ghost use Rattle.transient.specs.Code.{Based};
+ghost use Rattle.image.specs.Layout.{mostSlots};
+ghost use Rattle.image.specs.Line.{stored};
+ghost use Rattle.transient.specs.Layout.{headWords, threadsOf, threadsOk, blank, notedSlots, lastTaken, nextUidOf, placePhase, placeSlot, openEpoch, retiredIn, isWaiting, setLast, setNextUid, setOpen, setRetired, setWaiting, setPlace, emptied};
+ghost use Rattle.transient.specs.Requires.{ThreadRoom, Blanking, Notes, NoteOf, ThreadOf};
+ghost use Rattle.transient.specs.Exits.{Based};
+
+// Where the words of the head stand, and how many these are; then come the threads, then the slots.
+const SLOTS: usize = 0;
+
+const LAST: usize = 1;
+
+const NEXT_UID: usize = 2;
+
+const PHASE: usize = 3;
+
+const PLACE: usize = 4;
+
+pub const HEAD: usize = 5;
 
 // Does a slice of this length hold the notes of 1 to 16 threads, for `n` slots?
 pub fn threads_ok(len: usize, n: usize) -> bool
-    requires { ⌜ n ≤ 1024 ⌝ }
+    requires { ⌜ n ≤ mostSlots ⌝ }
     ensures { λ r. ⌜ r ≡ threadsOk len n ⌝ }
 {
-    let least = 4 + 3 * n + 1;
+    let least = HEAD + 3 * n + 1;
     std::num::wrapping_sub_usize(len, least) < 16
 }
 
@@ -20,87 +36,96 @@ pub fn threads(len: usize, n: usize) -> usize
     requires { ⌜ ThreadRoom len n ⌝ }
     ensures { λ r. ⌜ r ≡ threadsOf len n ⌝ }
 {
-    len - (4 + 3 * n)
+    len - (HEAD + 3 * n)
 }
 
-// Nothing open, retired, waiting or underway.
-pub fn set_blank(transient: &mut [u32], last: u32, uid: u32)
-    requires { ⌜ 2 ≤ length (now transient) ⌝ }
-    ensures { λ _. ⌜ now (transient .exit) ≡ blank (length (now (transient .entry))) last uid ⌝ }
+// For n slots, with nothing open, retired, waiting or underway.
+pub fn set_blank(transient: &mut [u32], n: u32, uid: u32)
+    requires { ⌜ Blanking (now transient) n ⌝ }
+    ensures { λ _. ⌜ now (transient .exit) ≡ blank (length (now (transient .entry))) n uid ⌝ }
 {
+    let last = n - 1;
     image::contents::clear(transient);
-    transient[0] = last;
-    transient[1] = uid;
+    transient[SLOTS] = n;
+    transient[LAST] = last;
+    transient[NEXT_UID] = uid;
+}
+
+pub fn noted_slots(transient: &[u32]) -> usize
+    requires { ⌜ headWords ≤ length (now transient) ⌝ }
+    ensures { λ r. ⌜ r ≡ notedSlots (now (transient .entry)) ⌝ }
+{
+    image::shape::wide(transient[SLOTS])
 }
 
 pub fn last_taken(transient: &[u32]) -> usize
-    requires { ⌜ 4 ≤ length (now transient) ⌝ }
+    requires { ⌜ headWords ≤ length (now transient) ⌝ }
     ensures { λ r. ⌜ r ≡ lastTaken (now (transient .entry)) ⌝ }
 {
-    image::shape::wide(transient[0])
+    image::shape::wide(transient[LAST])
 }
 
 pub fn next_uid(transient: &[u32]) -> u32
-    requires { ⌜ 4 ≤ length (now transient) ⌝ }
+    requires { ⌜ headWords ≤ length (now transient) ⌝ }
     ensures { λ r. ⌜ r ≡ nextUidOf (now (transient .entry)) ⌝ }
 {
-    transient[1]
+    transient[NEXT_UID]
 }
 
 pub fn place_phase(transient: &[u32]) -> u32
-    requires { ⌜ 4 ≤ length (now transient) ⌝ }
+    requires { ⌜ headWords ≤ length (now transient) ⌝ }
     ensures { λ r. ⌜ r ≡ placePhase (now (transient .entry)) ⌝ }
 {
-    transient[2]
+    transient[PHASE]
 }
 
 pub fn place_slot(transient: &[u32]) -> usize
-    requires { ⌜ 4 ≤ length (now transient) ⌝ }
+    requires { ⌜ headWords ≤ length (now transient) ⌝ }
     ensures { λ r. ⌜ r ≡ placeSlot (now (transient .entry)) ⌝ }
 {
-    image::shape::wide(transient[3])
+    image::shape::wide(transient[PLACE])
 }
 
-pub fn open_epoch(transient: &[u32], n: usize, t: usize, thread: usize) -> u32
-    requires { ⌜ ThreadOf (now transient) n t thread ⌝ }
+pub fn open_epoch(transient: &[u32], z: Sizes, thread: usize) -> u32
+    requires { ⌜ ThreadOf (now transient) z thread ⌝ }
     ensures { λ r. ⌜ r ≡ openEpoch (now (transient .entry)) thread ⌝ }
 {
-    transient[4 + thread]
+    transient[HEAD + thread]
 }
 
-pub fn retired_in(transient: &[u32], n: usize, t: usize, s: usize) -> u32
-    requires { ⌜ NoteOf (now transient) n t s ⌝ }
-    ensures { λ r. ⌜ r ≡ retiredIn (now (transient .entry)) t s ⌝ }
+pub fn retired_in(transient: &[u32], z: Sizes, s: usize) -> u32
+    requires { ⌜ NoteOf (now transient) z s ⌝ }
+    ensures { λ r. ⌜ r ≡ retiredIn z (now (transient .entry)) s ⌝ }
 {
-    transient[4 + t + s]
+    transient[HEAD + z.t + s]
 }
 
 pub fn set_last(transient: &mut [u32], s: u32)
-    requires { ⌜ 4 ≤ length (now transient) ⌝ }
+    requires { ⌜ headWords ≤ length (now transient) ⌝ }
     ensures { λ _. ⌜ now (transient .exit) ≡ setLast (now (transient .entry)) s ⌝ }
 {
-    transient[0] = s;
+    transient[LAST] = s;
 }
 
 pub fn set_next_uid(transient: &mut [u32], uid: u32)
-    requires { ⌜ 4 ≤ length (now transient) ⌝ }
+    requires { ⌜ headWords ≤ length (now transient) ⌝ }
     ensures { λ _. ⌜ now (transient .exit) ≡ setNextUid (now (transient .entry)) uid ⌝ }
 {
-    transient[1] = uid;
+    transient[NEXT_UID] = uid;
 }
 
-pub fn set_open(transient: &mut [u32], n: usize, t: usize, thread: usize, e: u32)
-    requires { ⌜ ThreadOf (now transient) n t thread ⌝ }
+pub fn set_open(transient: &mut [u32], z: Sizes, thread: usize, e: u32)
+    requires { ⌜ ThreadOf (now transient) z thread ⌝ }
     ensures { λ _. ⌜ now (transient .exit) ≡ setOpen (now (transient .entry)) thread e ⌝ }
 {
-    transient[4 + thread] = e;
+    transient[HEAD + thread] = e;
 }
 
-pub fn set_retired(transient: &mut [u32], n: usize, t: usize, s: usize, e: u32)
-    requires { ⌜ NoteOf (now transient) n t s ⌝ }
-    ensures { λ _. ⌜ now (transient .exit) ≡ setRetired (now (transient .entry)) t s e ⌝ }
+pub fn set_retired(transient: &mut [u32], z: Sizes, s: usize, e: u32)
+    requires { ⌜ NoteOf (now transient) z s ⌝ }
+    ensures { λ _. ⌜ now (transient .exit) ≡ setRetired z (now (transient .entry)) s e ⌝ }
 {
-    transient[4 + t + s] = e;
+    transient[HEAD + z.t + s] = e;
 }
 
 // Where the flags of e's waiting list begin, behind those of the even epochs.
@@ -110,28 +135,28 @@ fn list_base(n: usize, e: u32) -> usize
     if e % 2 == 0 { 0 } else { n }
 }
 
-pub fn set_waiting(transient: &mut [u32], n: usize, t: usize, e: u32, s: usize)
-    requires { ⌜ NoteOf (now transient) n t s ⌝ }
-    ensures { λ _. ⌜ now (transient .exit) ≡ setWaiting (now (transient .entry)) n t e s ⌝ }
+pub fn set_waiting(transient: &mut [u32], z: Sizes, e: u32, s: usize)
+    requires { ⌜ NoteOf (now transient) z s ⌝ }
+    ensures { λ _. ⌜ now (transient .exit) ≡ setWaiting z (now (transient .entry)) e s ⌝ }
 {
-    let b = list_base(n, e);
-    transient[4 + t + n + b + s] = 1;
+    let b = list_base(z.n, e);
+    transient[HEAD + z.t + z.n + b + s] = 1;
 }
 
-pub fn is_waiting(transient: &[u32], n: usize, t: usize, e: u32, s: usize) -> bool
-    requires { ⌜ NoteOf (now transient) n t s ⌝ }
-    ensures { λ r. ⌜ r ≡ isWaiting (now (transient .entry)) n t e s ⌝ }
+pub fn is_waiting(transient: &[u32], z: Sizes, e: u32, s: usize) -> bool
+    requires { ⌜ NoteOf (now transient) z s ⌝ }
+    ensures { λ r. ⌜ r ≡ isWaiting z (now (transient .entry)) e s ⌝ }
 {
-    let b = list_base(n, e);
-    transient[4 + t + n + b + s] != 0
+    let b = list_base(z.n, e);
+    transient[HEAD + z.t + z.n + b + s] != 0
 }
 
 pub fn set_place(transient: &mut [u32], phase: u32, slot: u32)
-    requires { ⌜ 4 ≤ length (now transient) ⌝ }
+    requires { ⌜ headWords ≤ length (now transient) ⌝ }
     ensures { λ _. ⌜ now (transient .exit) ≡ setPlace (now (transient .entry)) phase slot ⌝ }
 {
-    transient[2] = phase;
-    transient[3] = slot;
+    transient[PHASE] = phase;
+    transient[PLACE] = slot;
 }
 
 // The `k` words from `b` on become 0.
@@ -147,10 +172,10 @@ fn clear_words(l: &mut [u32], b: usize, k: usize)
 }
 
 // Nothing waits in e's list.
-pub fn empty_list(transient: &mut [u32], n: usize, t: usize, e: u32)
-    requires { ⌜ Notes (now transient) n t ⌝ }
-    ensures { λ _. ⌜ now (transient .exit) ≡ emptied (now (transient .entry)) n t e ⌝ }
+pub fn empty_list(transient: &mut [u32], z: Sizes, e: u32)
+    requires { ⌜ Notes (now transient) z ⌝ }
+    ensures { λ _. ⌜ now (transient .exit) ≡ emptied z (now (transient .entry)) e ⌝ }
 {
-    let b = list_base(n, e);
-    clear_words(transient, 4 + t + n + b, n);
+    let b = list_base(z.n, e);
+    clear_words(transient, HEAD + z.t + z.n + b, z.n);
 }

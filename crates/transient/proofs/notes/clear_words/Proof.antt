@@ -1,6 +1,6 @@
 -- `clear_words`: the loop has cleared j of the k words (`Emptying`).
 use borrow.Author.Needs.{needs}
-use Rattle.transient.specs.Code.{Emptying, emptying}
+use Rattle.transient.specs.Clearing.{Emptying, clearings}
 use Prim.Native.Nat.{_-_}
 use Rattle.transient.proofs.notes.clear_words.Statement.{statement}
 use Rattle.transient.proofs.notes.clear_words.Tie as tie
@@ -17,12 +17,12 @@ clear-words-spec =
     (tie.spec
     Inv-loop
     μ-loop
-    (λ c. search (needs, emptying))
-    (λ c. search (needs, emptying))
-    (λ c. search (needs, emptying))
-    (λ c. search (needs, emptying))
-    (λ c. search (needs, emptying))
-    (λ c. search (needs, emptying))
-    (λ c. search (needs, emptying))
-    (λ c. search (needs, emptying))
-    (λ c. search (needs, emptying)))
+    (λ c. search (needs, clearings))
+    (λ c. search (needs, clearings))
+    (λ c. search (needs, clearings))
+    (λ c. search (needs, clearings))
+    (λ c. search (needs, clearings))
+    (λ c. search (needs, clearings))
+    (λ c. search (needs, clearings))
+    (λ c. search (needs, clearings))
+    (λ c. search (needs, clearings)))

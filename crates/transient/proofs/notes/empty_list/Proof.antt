@@ -1,6 +1,6 @@
 -- `empty_list`: each way out is a law.
 use borrow.Author.Needs.{needs}
-use Rattle.transient.specs.Code.{laws, emptying}
+use Rattle.transient.specs.Exits.{laws}
 use Rattle.transient.proofs.notes.empty_list.Statement.{statement}
 use Rattle.transient.proofs.notes.empty_list.Tie as tie
 
@@ -8,10 +8,10 @@ pub empty-list-spec : {M : Type 1} → statement M
 empty-list-spec =
     tie.close
     (tie.spec
-    (λ c κs. search (needs, laws, emptying))
-    (λ c. search (needs, laws, emptying))
-    (λ c. search (needs, laws, emptying))
-    (λ c. search (needs, laws, emptying))
-    (λ c κs. search (needs, laws, emptying))
-    (λ c. search (needs, laws, emptying))
-    (λ c. search (needs, laws, emptying)))
+    (λ c κs. search (needs, laws))
+    (λ c. search (needs, laws))
+    (λ c. search (needs, laws))
+    (λ c. search (needs, laws))
+    (λ c κs. search (needs, laws))
+    (λ c. search (needs, laws))
+    (λ c. search (needs, laws)))

@@ -1,6 +1,6 @@
 -- `is_waiting`: each way out is a law.
 use borrow.Author.Needs.{needs}
-use Rattle.transient.specs.Code.{laws}
+use Rattle.transient.specs.Exits.{laws}
 use Rattle.transient.proofs.notes.is_waiting.Statement.{statement}
 use Rattle.transient.proofs.notes.is_waiting.Tie as tie
 

@@ -1,6 +1,6 @@
 -- `list_base`: each way out is a law.
 use borrow.Author.Needs.{needs}
-use Rattle.transient.specs.Code.{laws}
+use Rattle.transient.specs.Exits.{laws}
 use Rattle.transient.proofs.notes.list_base.Statement.{statement}
 use Rattle.transient.proofs.notes.list_base.Tie as tie
 

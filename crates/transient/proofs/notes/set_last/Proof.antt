@@ -1,6 +1,6 @@
 -- `set_last`: each way out is a law.
 use borrow.Author.Needs.{needs}
-use Rattle.transient.specs.Code.{laws}
+use Rattle.transient.specs.Exits.{laws}
 use Rattle.transient.proofs.notes.set_last.Statement.{statement}
 use Rattle.transient.proofs.notes.set_last.Tie as tie
 

@@ -1,6 +1,6 @@
 -- `set_next_uid`: each way out is a law.
 use borrow.Author.Needs.{needs}
-use Rattle.transient.specs.Code.{laws}
+use Rattle.transient.specs.Exits.{laws}
 use Rattle.transient.proofs.notes.set_next_uid.Statement.{statement}
 use Rattle.transient.proofs.notes.set_next_uid.Tie as tie
 

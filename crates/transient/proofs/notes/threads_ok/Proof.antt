@@ -1,6 +1,6 @@
 -- `threads_ok`: each way out is a law.
 use borrow.Author.Needs.{needs}
-use Rattle.transient.specs.Code.{laws}
+use Rattle.transient.specs.Exits.{laws}
 use Rattle.transient.proofs.notes.threads_ok.Statement.{statement}
 use Rattle.transient.proofs.notes.threads_ok.Tie as tie
 

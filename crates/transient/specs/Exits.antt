@@ -1,10 +1,10 @@
--- What the proofs of this crate's functions cite.
+-- The ways out of this crate's functions.
 use Prim.Native.Nat.{ℕ, _+_, _*_, _-_, _%_, _^_, _≤_, _<_}
 use mathlib.Core.Path.{_≡_, refl, sym, ap, _∙_}
 use mathlib.Core.Bool.{Bool, true, false, not, _&&_, _||_}
 use mathlib.Core.List.{List}
 use mathlib.Core.Logic.{⊎-elim}
-use lib.ListN.{length, getD, set, replicate, getD-replicate}
+use lib.ListN.{length, getD, set, replicate}
 use lib.Dec.{leb, ltb, eqb}
 use borrow.Author.Tests.{lt-ltb, le-ltb, le-leb, lt-leb, eq-eqb, ne-eqb, ltb-true, ltb-false, leb-true, eqb-true, not-false}
 use native.Mathlib.Omega.{arith}
@@ -12,18 +12,24 @@ use Rattle.search.specs.Bools.{cases, refuted, same-test, and-left, and-right, 
 use Rattle.search.specs.Some.{every, Held, held-next, loops as everies}
 use Rattle.reply.specs.declared.Check.{Check}
 use Rattle.reply.specs.declared.Check.the-variants.{Accepted, Refused}
-use Rattle.reply.specs.declared.Refusal.{Refusal}
-use Rattle.reply.specs.declared.Refusal.the-variants.{Sizes, Clock}
-use Rattle.reply.specs.Refusals.{refuse, not-refused}
-use Rattle.image.specs.Layout.{slotsOf, widthOf, clockOf, shapeOk, clockOk, Sized, stored}
-use Rattle.image.specs.Code.{shaped, Storing, storing-start, storing-next, storing-end}
-use Rattle.transient.specs.Store.{Store, store}
-use Rattle.transient.specs.Layout.{threadsOf, threadsOk, blank, lastTaken, nextUidOf, placeSlot, openEpoch, listBase, waitingAt, isWaiting, setLast, setNextUid, setOpen, setRetired, setWaiting, setPlace, emptied, ThreadRoom, Notes, NoteOf, ThreadOf}
-use Rattle.transient.specs.Laws.{base-top}
-use Rattle.transient.specs.Entry.{imagesFit, uidOk, notesFit, sizesFit, openOk, opensOk, clocksFit, threads, entryCheck}
+use Rattle.reply.specs.declared.Refusal.the-variants.{BadSizes, BadClock}
+use Rattle.reply.specs.Refusals.{refuse}
+use Rattle.image.specs.Layout.{mostSlots, mostNumber, slotsOf, widthOf, clockOf, shapeOk, clockOk}
+use Rattle.image.specs.Line.{stored}
+use Rattle.image.specs.Requires.{Sized}
+use Rattle.image.specs.Laws.{shaped}
+use Rattle.image.specs.Storing.{storings}
+use Rattle.transient.specs.declared.sizes.Sizes.{Sizes}
+use Rattle.transient.specs.Store.{store, table, sizesOf}
+use Rattle.transient.specs.Layout.{slotsAt, lastAt, nextUidAt, phaseAt, placeAt, headWords, openAt, retiredAt, listBase, waitingAt, threadsOf, threadsOk, notedSlots, lastTaken, nextUidOf, placeSlot, openEpoch, isWaiting, setLast, setNextUid, setOpen, setRetired, setWaiting, setPlace, emptied, blank}
+use Rattle.transient.specs.Entry.{imagesFit, uidOk, notesFit, sizesFit, openOk, opensOk, clocksFit, entryCheck}
+use Rattle.transient.specs.Requires.{ThreadRoom, Notes, Sizable, Paired, sizesAlike, Threads, Fitting, requires-laws}
+use Rattle.transient.specs.Clearing.{clearings}
+use Rattle.transient.specs.Passed.{Sizing, sizing, sizes-t}
 
+-- ---- sizes
 -- a length too small wraps to a number that is too large
-pub threads-wrap : (len n : ℕ) {d : ℕ} → n ≤ 1024 → d < 2 ^ 64 → (d + (4 + 3 * n + 1)) % 2 ^ 64 ≡ len → ltb d 16 ≡ threadsOk len n
+pub threads-wrap : (len n : ℕ) {d : ℕ} → n ≤ mostSlots → d < 2 ^ 64 → (d + (headWords + 3 * n + 1)) % 2 ^ 64 ≡ len → ltb d 16 ≡ threadsOk len n
 unfolding threadsOk
 threads-wrap len n {d} h f e =
     ⊎-elim
@@ -40,9 +46,16 @@ threads-wrap len n {d} h f e =
     (cases (leb 1 (threadsOf len n))))
     (cases (ltb d 16))
 
-pub blank-set : (l : List ℕ) {z : List ℕ} (last uid : ℕ) → z ≡ replicate (length l) 0 → set (set z 0 last) 1 uid ≡ blank (length l) last uid
+pub sizable-room : {wk tr : List ℕ} {n : ℕ} → Sizable wk tr → n ≡ slotsOf wk → ThreadRoom (length tr) n
+sizable-room z e = rw e (z .room)
+
+pub sizes-made : (wk tr : List ℕ) {n w t : ℕ} → n ≡ slotsOf wk → w ≡ widthOf wk → t ≡ threadsOf (length tr) n → record { n = n; w = w; t = t } ≡ sizesOf (table wk tr)
+unfolding sizesOf
+sizes-made wk tr a b c = rw (c, a, b)
+
+pub blank-set : (l : List ℕ) {a : List ℕ} (n uid : ℕ) → a ≡ replicate (length l) 0 → set (set (set a slotsAt n) lastAt (n - 1)) nextUidAt uid ≡ blank (length l) n uid
 unfolding blank
-blank-set l last uid e = rw e
+blank-set l n uid e = rw e
 
 -- ---- writers
 pub record Based (n e b : ℕ) : Type 0 where
@@ -58,70 +71,45 @@ unfolding listBase
 based-odd n e h = record { same = rw (ne-eqb (e % 2) 0 h); top = omega arith }
 
 module _ (tr : List ℕ) where
-  pub last-stored : (s : ℕ) → set tr 0 s ≡ setLast tr s
+  pub last-stored : (s : ℕ) → set tr lastAt s ≡ setLast tr s
   unfolding setLast
   last-stored s = refl
 
-  pub uid-stored : (u : ℕ) → set tr 1 u ≡ setNextUid tr u
+  pub uid-stored : (u : ℕ) → set tr nextUidAt u ≡ setNextUid tr u
   unfolding setNextUid
   uid-stored u = refl
 
-  pub open-stored : (thread e : ℕ) → set tr (4 + thread) e ≡ setOpen tr thread e
+  pub place-stored : (phase slot : ℕ) → set (set tr phaseAt phase) placeAt slot ≡ setPlace tr phase slot
+  unfolding setPlace
+  place-stored phase slot = refl
+
+  pub open-stored : (thread e : ℕ) → set tr (openAt thread) e ≡ setOpen tr thread e
   unfolding setOpen
   open-stored thread e = refl
 
-  pub retired-stored : (t s e : ℕ) → set tr (4 + t + s) e ≡ setRetired tr t s e
-  unfolding setRetired
-  retired-stored t s e = refl
+  module _ (z : Sizes) where
+    pub retired-stored : (s e : ℕ) → set tr (retiredAt z s) e ≡ setRetired z tr s e
+    unfolding setRetired
+    retired-stored s e = refl
 
-  pub waiting-stored : (n t e s : ℕ) {b : ℕ} → Based n e b → set tr (4 + t + n + b + s) 1 ≡ setWaiting tr n t e s
-  unfolding setWaiting
-  waiting-stored n t e s z = rw (z .same)
+    pub waiting-stored : (e s : ℕ) {b : ℕ} → Based (z .n) e b → set tr (headWords + z .t + z .n + b + s) 1 ≡ setWaiting z tr e s
+    unfolding setWaiting
+    waiting-stored e s y = rw (y .same)
 
--- ---- the waiting lists
-pub waiting-is : (tr : List ℕ) (n t e s : ℕ) {b : ℕ} → Based n e b → not (eqb (getD tr (4 + t + n + b + s) 0) 0) ≡ isWaiting tr n t e s
-unfolding isWaiting
-waiting-is tr n t e s z = rw (← z .same)
+    pub waiting-is : (e s : ℕ) {b : ℕ} → Based (z .n) e b → not (eqb (getD tr (headWords + z .t + z .n + b + s) 0) 0) ≡ isWaiting z tr e s
+    unfolding isWaiting
+    waiting-is e s y = rw (← y .same)
 
-pub place-stored : (tr : List ℕ) (phase slot : ℕ) → set (set tr 2 phase) 3 slot ≡ setPlace tr phase slot
-unfolding setPlace
-place-stored tr phase slot = refl
+    pub list-room : (e : ℕ) {b : ℕ} → Notes tr z → Based (z .n) e b → headWords + z .t + z .n + b + z .n ≤ length tr
+    list-room e y h = omega (arith, y .long, h .top)
 
--- a loop has cleared j of k words
-abbrev pub Emptying : List ℕ → ℕ → ℕ → ℕ → List ℕ → Type 0
-Emptying l₀ b k j l = Storing l₀ b (replicate k 0) k j l
-
-pub emptying-start : (l : List ℕ) (b k : ℕ) → Emptying l b k 0 l
-emptying-start l b k = storing-start l b (replicate k 0) k
-
-pub emptying-next : {l₀ : List ℕ} {b k j : ℕ} {l : List ℕ} → Emptying l₀ b k j l → j < k → Emptying l₀ b k (j + 1) (set l (b + j) 0)
-emptying-next {l₀} {b} {k} {j} z h = storing-next z h (sym (getD-replicate k j 0 0 h))
-
-pub emptying-end : {l₀ : List ℕ} {b k j : ℕ} {l : List ℕ} → Emptying l₀ b k j l → k ≤ j → l ≡ stored l₀ b (replicate k 0) k
-emptying-end z h = storing-end z h
-
-pub list-room : (tr : List ℕ) (n t e : ℕ) {b : ℕ} → Notes tr n t → Based n e b → 4 + t + n + b + n ≤ length tr
-list-room tr n t e z y = omega (arith, z .long, y .top)
-
-pub list-emptied : (tr : List ℕ) (n t e : ℕ) {b : ℕ} {tr′ : List ℕ} → Based n e b → tr′ ≡ stored tr (4 + t + n + b) (replicate n 0) n → tr′ ≡ emptied tr n t e
-unfolding emptied
-list-emptied tr n t e z h =
-    let at : waitingAt n t e 0 ≡ 4 + t + n + listBase n e = omega arith in
-    rw (at, ← z .same) h
-
-pub ruleset emptying = (emptying-start, emptying-next, emptying-end, list-room, list-emptied)
-
-pub ruleset laws = (tests, waiting-is, place-stored, threads-wrap, blank-set, based-even, based-odd, last-stored, uid-stored, open-stored, retired-stored, waiting-stored)
+    pub list-emptied : (e : ℕ) {b : ℕ} {tr′ : List ℕ} → Based (z .n) e b → tr′ ≡ stored tr (headWords + z .t + z .n + b) (replicate (z .n) 0) (z .n) → tr′ ≡ emptied z tr e
+    unfolding emptied
+    list-emptied e y h =
+        let at : waitingAt z e 0 ≡ headWords + z .t + z .n + listBase (z .n) e = omega arith in
+        rw (at, ← y .same) h
 
 -- ---- refusal 1
--- two images whose sizes can be read
-pub record Paired (wk l : List ℕ) : Type 0 where
-  pub working : 3 ≤ length wk
-  pub persistent : 3 ≤ length l
-
-unfoldable pub sizesAlike : List ℕ → List ℕ → Bool
-sizesAlike wk l = eqb (slotsOf l) (slotsOf wk) && eqb (widthOf l) (widthOf wk)
-
 module _ (wk l : List ℕ) where
   pub alike-slots : (slotsOf l ≡ slotsOf wk → ⊥) → false ≡ sizesAlike wk l
   unfolding sizesAlike
@@ -175,19 +163,33 @@ module _ (wk l : List ℕ) {s : Bool} (sh : s ≡ shapeOk wk) where
         let t : shapeOk wk ≡ true = sym sh ∙ st in
         e ∙ same-test (sizesAlike wk l) (imagesFit wk l) (λ h. alike-fit wk l t (shape-same wk l t long h) h) (λ h. fit-alike wk l h)
 
-module _ (tr : List ℕ) (n : ℕ) {a : ℕ} (la : a ≡ lastTaken tr) where
-  pub notes-last : n ≤ a → false ≡ notesFit tr n
+module _ (tr : List ℕ) (n : ℕ) {d : ℕ} (sl : d ≡ notedSlots tr) where
+  pub notes-slots : (d ≡ n → ⊥) → false ≡ notesFit tr n
   unfolding notesFit
-  notes-last h = rw (le-ltb (lastTaken tr) n (omega arith))
+  notes-slots h = rw (← sl, ne-eqb d n h)
 
-  module _ {b : ℕ} (h : a < n) (pl : b ≡ placeSlot tr) where
-    pub notes-place : n ≤ b → false ≡ notesFit tr n
+  module _ {a : ℕ} (same : d ≡ n) (la : a ≡ lastTaken tr) where
+    pub notes-last : n ≤ a → false ≡ notesFit tr n
     unfolding notesFit
-    notes-place k = rw (lt-ltb (lastTaken tr) n (omega arith), le-ltb (placeSlot tr) n (omega arith))
+    notes-last h = rw (← sl, eq-eqb d n same, le-ltb (lastTaken tr) n (omega arith))
 
-    pub notes-uid : {r : Bool} → b < n → r ≡ uidOk (nextUidOf tr) → r ≡ notesFit tr n
-    unfolding notesFit
-    notes-uid k u = rw (lt-ltb (lastTaken tr) n (omega arith), lt-ltb (placeSlot tr) n (omega arith)) u
+    module _ {b : ℕ} (h : a < n) (pl : b ≡ placeSlot tr) where
+      pub notes-place : n ≤ b → false ≡ notesFit tr n
+      unfolding notesFit
+      notes-place k = rw (← sl, eq-eqb d n same, lt-ltb (lastTaken tr) n (omega arith), le-ltb (placeSlot tr) n (omega arith))
+
+      pub notes-uid : {u : ℕ} {r : Bool} → b < n → u ≡ nextUidOf tr → r ≡ uidOk u → r ≡ notesFit tr n
+      unfolding notesFit
+      notes-uid k e q = rw (← sl, eq-eqb d n same, lt-ltb (lastTaken tr) n (omega arith), lt-ltb (placeSlot tr) n (omega arith), ← e) q
+
+module _ (u : ℕ) where
+  pub uid-low : u < 1 → false ≡ uidOk u
+  unfolding uidOk
+  uid-low h = rw (lt-leb 1 u h)
+
+  pub uid-top : 1 ≤ u → leb u (mostNumber + 1) ≡ uidOk u
+  unfolding uidOk
+  uid-top h = rw (le-leb 1 u h)
 
 images-shaped : (wk l : List ℕ) → imagesFit wk l ≡ true → Sized wk (slotsOf wk) (widthOf wk)
 unfolding imagesFit
@@ -202,7 +204,7 @@ module _ (wk l tr : List ℕ) {f : Bool} (fi : f ≡ imagesFit wk l) where
   images-in j t h = let z = images-shaped wk l (sym fi ∙ t) in omega arith
 
   module _ {n : ℕ} (ft : f ≡ true) (at : n ≡ slotsOf wk) where
-    pub images-slots-hi : n ≤ 1024
+    pub images-slots-hi : n ≤ mostSlots
     images-slots-hi = let z = images-shaped wk l (sym fi ∙ ft) in omega arith
 
     module _ {k : Bool} (th : k ≡ threadsOk (length tr) n) where
@@ -214,20 +216,11 @@ module _ (wk l tr : List ℕ) {f : Bool} (fi : f ≡ imagesFit wk l) where
       unfolding sizesFit
       sizes-notes e q = rw (← fi, ft, ← at, ← th, e) q
 
-pub threads-room : (len n : ℕ) {k : Bool} → k ≡ threadsOk len n → k ≡ true → 4 ≤ len
+pub threads-room : (len n : ℕ) {k : Bool} → k ≡ threadsOk len n → k ≡ true → headWords ≤ len
 unfolding threadsOk
 threads-room len n e t = omega (arith, leb-true 1 (threadsOf len n) (and-left (leb 1 (threadsOf len n)) _ (sym e ∙ t)))
 
 -- ---- refusal 2
-pub record Threads (tr : List ℕ) (t : ℕ) : Type 0 where
-  pub room : 4 + t ≤ length tr
-  pub few : t ≤ 16
-
-pub record Fitting (wk l tr : List ℕ) (t : ℕ) : Type 0 where
-  pub working : 3 ≤ length wk
-  pub persistent : 3 ≤ length l
-  pub threads : Threads tr t
-
 pub fitting-threads : {wk l tr : List ℕ} {t : ℕ} → Fitting wk l tr t → Threads tr t
 fitting-threads z = z .threads
 
@@ -265,50 +258,8 @@ module _ (wk l tr : List ℕ) (t : ℕ) {c : ℕ} {k : Bool} (at : c ≡ clockOf
   unfolding clocksFit
   clocks-opens e d q = rw (← at, ← ck, e, eq-eqb (clockOf l) c d) q
 
--- ---- what refusal 1 leaves
-pub record Sizing (wk l tr : List ℕ) (n w t : ℕ) : Type 0 where
-  pub working : Sized wk n w
-  pub persistent : Sized l n w
-  pub notes : Notes tr n t
-  pub some : 1 ≤ t
-  pub last : lastTaken tr < n
-  pub place : placeSlot tr < n
-  pub uid-lo : 1 ≤ nextUidOf tr
-  pub uid-hi : nextUidOf tr ≤ 4000000001
-
-pub sizing : (wk l tr : List ℕ) {r : Bool} → r ≡ sizesFit wk l tr → r ≡ true → Sizing wk l tr (slotsOf wk) (widthOf wk) (threadsOf (length tr) (slotsOf wk))
-unfolding sizesFit imagesFit threadsOk notesFit uidOk
-sizing wk l tr {r} e h =
-    let n = slotsOf wk in
-    let k = threadsOf (length tr) n in
-    let all = sym e ∙ h in
-    let images = and-left (shapeOk wk && (shapeOk l && (eqb (slotsOf l) n && eqb (widthOf l) (widthOf wk)))) _ all in
-    let rest = and-right (shapeOk wk && (shapeOk l && (eqb (slotsOf l) n && eqb (widthOf l) (widthOf wk)))) _ all in
-    let two = and-right (shapeOk wk) _ images in
-    let same = and-right (shapeOk l) _ two in
-    let a : slotsOf l ≡ n = eqb-true _ _ (and-left (eqb (slotsOf l) n) _ same) in
-    let b : widthOf l ≡ widthOf wk = eqb-true _ _ (and-right (eqb (slotsOf l) n) _ same) in
-    let z : Sized wk n (widthOf wk) = shaped wk (and-left (shapeOk wk) _ images) in
-    let y : Sized l (slotsOf l) (widthOf l) = shaped l (and-left (shapeOk l) _ two) in
-    let fits = and-left (leb 1 k && leb k 16) _ rest in
-    let notes = and-right (leb 1 k && leb k 16) _ rest in
-    let more = and-right (ltb (lastTaken tr) n) _ notes in
-    let uid = and-right (ltb (placeSlot tr) n) _ more in
-    let lo : 1 ≤ k = leb-true 1 k (and-left (leb 1 k) _ fits) in
-    let hi : k ≤ 16 = leb-true k 16 (and-right (leb 1 k) _ fits) in
-    record {
-      working = z;
-      persistent = rw (a, b) at y;
-      notes = record { long = omega arith; slots-hi = z .sizes .slots-hi; threads-hi = hi };
-      some = lo;
-      last = ltb-true _ _ (and-left (ltb (lastTaken tr) n) _ notes);
-      place = ltb-true _ _ (and-left (ltb (placeSlot tr) n) _ more);
-      uid-lo = leb-true _ _ (and-left (leb 1 (nextUidOf tr)) _ uid);
-      uid-hi = leb-true _ _ (and-right (leb 1 (nextUidOf tr)) _ uid);
-    }
-
 module _ (wk l tr : List ℕ) {s : Bool} (sf : s ≡ sizesFit wk l tr) where
-  pub entry-sizes : s ≡ false → Refused Sizes ≡ entryCheck (store wk l tr)
+  pub entry-sizes : s ≡ false → Refused BadSizes ≡ entryCheck (store wk l tr)
   unfolding entryCheck
   entry-sizes e = rw (← sf, e)
 
@@ -318,21 +269,25 @@ module _ (wk l tr : List ℕ) {s : Bool} (sf : s ≡ sizesFit wk l tr) where
 
     module _ {n : ℕ} (at : n ≡ slotsOf wk) where
       pub entry-room : ThreadRoom (length tr) n
+      unfolding sizesOf
       entry-room = let z = sizing wk l tr sf st in rw at (record { slots-hi = omega arith; room = omega arith })
 
       module _ {t : ℕ} (ts : t ≡ threadsOf (length tr) n) where
         pub entry-fitting : Fitting wk l tr t
+        unfolding sizesOf
         entry-fitting =
             let z = sizing wk l tr sf st in
             rw (ts, at) (record { working = omega arith; persistent = omega arith; threads = record { room = omega arith; few = omega arith } })
 
         module _ {k : Bool} (ck : k ≡ clocksFit wk l tr t) where
-          pub entry-clock : k ≡ false → Refused Clock ≡ entryCheck (store wk l tr)
+          pub entry-clock : k ≡ false → Refused BadClock ≡ entryCheck (store wk l tr)
           unfolding entryCheck
-          entry-clock e = let q : clocksFit wk l tr (threads (store wk l tr)) ≡ false = rw (ts, at) at (sym ck ∙ e) in rw (← sf, st, q)
+          entry-clock e = let q : clocksFit wk l tr (sizesOf (table wk tr) .t) ≡ false = rw (sizes-t wk tr, ← at, ← ts) (sym ck ∙ e) in rw (← sf, st, q)
 
           pub entry-fine : k ≡ true → Accepted ≡ entryCheck (store wk l tr)
           unfolding entryCheck
-          entry-fine e = let q : clocksFit wk l tr (threads (store wk l tr)) ≡ true = rw (ts, at) at (sym ck ∙ e) in rw (← sf, st, q)
+          entry-fine e = let q : clocksFit wk l tr (sizesOf (table wk tr) .t) ≡ true = rw (sizes-t wk tr, ← at, ← ts) (sym ck ∙ e) in rw (← sf, st, q)
 
-pub ruleset entries = (everies, alike-slots, alike-width, images-working, images-length, images-paired, images-alike, notes-last, notes-place, notes-uid, sizes-images, images-in, images-slots-hi, sizes-threads, sizes-notes, threads-room, fitting-threads, open-none, open-now, open-before, held-sure, opens-is, clocks-bad, clocks-differ, clocks-opens, entry-sizes, entry-in, entry-room, entry-fitting, entry-clock, entry-fine)
+pub ruleset laws = (tests, requires-laws, storings, clearings, threads-wrap, sizable-room, sizes-made, blank-set, based-even, based-odd, last-stored, uid-stored, place-stored, open-stored, retired-stored, waiting-stored, waiting-is, list-room, list-emptied)
+
+pub ruleset entries = (everies, alike-slots, alike-width, images-working, images-length, images-paired, images-alike, notes-slots, notes-last, notes-place, notes-uid, uid-low, uid-top, sizes-images, images-in, images-slots-hi, sizes-threads, sizes-notes, threads-room, fitting-threads, open-none, open-now, open-before, held-sure, opens-is, clocks-bad, clocks-differ, clocks-opens, entry-sizes, entry-in, entry-room, entry-fitting, entry-clock, entry-fine)

@@ -1,0 +1,38 @@
+-- A call on the working image and the notes. 01: "Change calls never store into the lasting image."
+use Prim.Native.Nat.{ℕ}
+use mathlib.Core.Bool.{Bool, cond}
+use mathlib.Core.List.{List}
+use Rattle.reply.specs.declared.Check.{Check}
+use Rattle.reply.specs.declared.Check.the-variants.{Accepted, Refused}
+use Rattle.reply.specs.declared.Refusal.{Refusal}
+use Rattle.reply.specs.Refusals.{refusalNumber}
+use Rattle.transient.specs.declared.sizes.Sizes.{Sizes}
+use Rattle.transient.specs.Store.{Store, Table, table, tableOf, sizesOf, Outcome, outcome, afterCheck}
+use Rattle.transient.specs.Entry.{entryCheck}
+
+pub record Changed : Type 0 where
+  pub reply : Check
+  pub table : Table
+
+abbrev pub changed : Check → List ℕ → List ℕ → Changed
+changed r wk tr = record { reply = r; table = table wk tr }
+
+-- "Every refusal leaves both images and the notes unchanged"
+abbrev pub refused : Refusal → Table → Changed
+refused r tb = record { reply = Refused r; table = tb }
+
+-- where the condition holds that refusal, else what follows
+abbrev pub declines : Bool → Refusal → Table → Changed → Changed
+declines b r tb next = cond b (refused r tb) next
+
+abbrev pub inStore : Store → Changed → Outcome Check
+inStore st ch = outcome (ch .reply) (ch .table .working) (st .persistent) (ch .table .transient)
+
+-- a call: refusals 1 and 2, then its own part, which is told the sizes
+abbrev pub onStore : Store → (Sizes → Table → Changed) → Outcome Check
+onStore st call = afterCheck (entryCheck st) Refused st (inStore st (call (sizesOf (tableOf st)) (tableOf st)))
+
+-- the reply's number: 0 for accepted
+abbrev pub checkNumber : Check → ℕ
+checkNumber Accepted = 0
+checkNumber (Refused r) = refusalNumber r
