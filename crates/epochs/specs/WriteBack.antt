@@ -7,25 +7,20 @@ use Rattle.reply.specs.declared.Check.{Check}
 use Rattle.reply.specs.declared.Check.the-variants.{Accepted, Refused}
 use Rattle.reply.specs.declared.Refusal.the-variants.{NoLine}
 use Rattle.reply.specs.Refusals.{refuse, andThen}
-use Rattle.image.specs.Layout.{slotsOf, widthOf}
-use Rattle.transient.specs.Store.{Store}
+use Rattle.image.specs.Line.{Line, heldHeader, heldContents, storeLine}
+use Rattle.transient.specs.declared.sizes.Sizes.{Sizes}
+use Rattle.transient.specs.Store.{Store, tableOf, sizesOf, Outcome, outcome, afterCheck}
 use Rattle.transient.specs.Entry.{entryCheck}
-use Rattle.changes.specs.Changed.{Answer, answer}
-use Rattle.epochs.specs.Advance.{contentsLine, headerLine}
+
+-- "line code other than 0 (contents) and 1 (mark)": a slot's line as an image holds it
+abbrev pub heldLine : Sizes → List ℕ → ℕ → ℕ → Line
+heldLine z l slot code = cond (eqb code 0) (heldContents l (z .n) (z .w) slot) (heldHeader l slot)
 
 -- 16: "slot not below N, or line code other than 0 (contents) and 1 (mark)"
-unfoldable pub writeBackCheck : Store → ℕ → ℕ → Check
-writeBackCheck st slot line = andThen (entryCheck st) (refuse (leb (slotsOf (st .working)) slot || ltb 1 line) NoLine Accepted)
+unfoldable pub writeBackSized : ℕ → ℕ → Sizes → Store → Outcome Check
+writeBackSized slot code z st =
+    afterCheck (refuse (leb (z .n) slot || ltb 1 code) NoLine Accepted) Refused st
+    (outcome Accepted (st .working) (storeLine (st .persistent) (heldLine z (st .working) slot code)) (st .transient))
 
-unfoldable pub copied : Store → ℕ → ℕ → List ℕ
-copied st slot line =
-    cond (eqb line 0)
-    (contentsLine (st .working) (st .persistent) (slotsOf (st .working)) (widthOf (st .working)) slot)
-    (headerLine (st .working) (st .persistent) slot)
-
-abbrev pub written : Check → Store → List ℕ → Answer
-written (Refused r) st l = record { reply = Refused r; store = st }
-written Accepted st l = answer Accepted (st .working) l (st .transient)
-
-unfoldable pub writeBack : Store → ℕ → ℕ → Answer
-writeBack st slot line = written (writeBackCheck st slot line) st (copied st slot line)
+unfoldable pub writeBack : Store → ℕ → ℕ → Outcome Check
+writeBack st slot code = afterCheck (entryCheck st) Refused st (writeBackSized slot code (sizesOf (tableOf st)) st)

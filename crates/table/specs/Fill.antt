@@ -1,22 +1,24 @@
 -- What filling or freeing a slot leaves in the working image and in the notes.
-use Prim.Native.Nat.{ℕ, _+_, _-_}
+use Prim.Native.Nat.{ℕ, _+_}
 use mathlib.Core.List.{List}
 use Rattle.image.specs.declared.header.Header.{Header}
-use Rattle.image.specs.Layout.{contentsAt, stored, setContents, setHeader}
+use Rattle.image.specs.Layout.{contentsAt}
+use Rattle.image.specs.Line.{line, headerLine, contentsLine, storeLine}
+use Rattle.transient.specs.declared.sizes.Sizes.{Sizes}
 use Rattle.transient.specs.Layout.{setLast, setRetired, setWaiting}
 
 -- the value words of a slot
-unfoldable pub setValue : List ℕ → ℕ → ℕ → ℕ → List ℕ → List ℕ
-setValue l n w s value = stored l (contentsAt n w s + 1) value (w - 1)
+unfoldable pub setValue : Sizes → List ℕ → ℕ → List ℕ → List ℕ
+setValue z wk s value = storeLine wk (line (contentsAt (z .n) (z .w) s + 1) value)
 
 -- a slot's contents and header
-unfoldable pub filledSlot : List ℕ → ℕ → ℕ → ℕ → Header → List ℕ → List ℕ
-filledSlot l n w s h line = setHeader (setContents l n w s line) s h
+unfoldable pub filledSlot : Sizes → List ℕ → ℕ → Header → List ℕ → List ℕ
+filledSlot z wk s h words = storeLine (storeLine wk (contentsLine (z .n) (z .w) s words)) (headerLine s h)
 
 -- a slot joins the waiting list of e, and is not retired
-unfoldable pub joined : List ℕ → ℕ → ℕ → ℕ → ℕ → List ℕ
-joined tr n t e s = setWaiting (setRetired tr t s 0) n t e s
+unfoldable pub joined : Sizes → List ℕ → ℕ → ℕ → List ℕ
+joined z tr e s = setWaiting z (setRetired z tr s 0) e s
 
 -- a slot taken in epoch e: the last one taken, not retired, waiting in e
-unfoldable pub taken : List ℕ → ℕ → ℕ → ℕ → ℕ → List ℕ
-taken tr n t e s = joined (setLast tr s) n t e s
+unfoldable pub taken : Sizes → List ℕ → ℕ → ℕ → List ℕ
+taken z tr e s = joined z (setLast tr s) e s

@@ -1,26 +1,30 @@
 // Searches over the table.
 use search::Found;
+use transient::sizes::Sizes;
 ghost use mathlib.Core.Path.{_≡_};
 ghost use Prim.Native.Nat.{_+_};
 ghost use Rattle.search.specs.Ring.{ringSlot, firstRound};
-ghost use Rattle.image.specs.Layout.{Slot, HeaderFits};
+ghost use Rattle.image.specs.Name.{jobName};
+ghost use Rattle.image.specs.Requires.{Slot, HeaderFits};
+ghost use Rattle.transient.specs.Store.{table};
+ghost use Rattle.transient.specs.Requires.{Shaped, ShapedSlot, Entered};
 ghost use Rattle.table.specs.Find.{newerAt, liveAt, liveSlot, lookup, freeAt, room};
-ghost use Rattle.table.specs.Code.{Table, TableSlot, Ring, RingStart, Rooms, sooner};
+ghost use Rattle.table.specs.Requires.{Ring, RingStart, sooner};
 
 // What a key finds for an operation: a later epoch has it, a live slot holds it, or neither.
 pub enum Lookup {
-    Newer,
+    Later,
     Live(usize),
     Absent,
 }
 
 // The key is looked at first: in most slots it is another one.
-fn newer_at(working: &[u32], n: usize, w: usize, key: u32, e: u32, s: usize) -> bool
-    requires { ⌜ Slot (now working) n w s ⌝ }
-    ensures { λ r. ⌜ r ≡ newerAt (now (working .entry)) n w key e s ⌝ }
+fn newer_at(working: &[u32], z: Sizes, key: u32, e: u32, s: usize) -> bool
+    requires { ⌜ Slot (now working) (z .n) (z .w) s ⌝ }
+    ensures { λ r. ⌜ r ≡ newerAt z (now (working .entry)) (jobName key) e s ⌝ }
 {
-    if image::contents::key_at(working, n, w, s) == key {
-        let h = image::header::header_at(working, n, s);
+    if image::name::named_at(working, z.n, z.w, s, key) {
+        let h = image::header::header_at(working, z.n, s);
         if image::header::filled(h.kind) {
             e < h.epoch
         } else {
@@ -34,19 +38,17 @@ fn newer_at(working: &[u32], n: usize, w: usize, key: u32, e: u32, s: usize) -> 
 fn live_at(
     working: &[u32],
     transient: &[u32],
-    n: usize,
-    w: usize,
-    t: usize,
+    z: Sizes,
     key: u32,
     s: usize,
 ) -> bool
-    requires { ⌜ TableSlot (now working) (now transient) n w t s ⌝ }
-    ensures { λ r. ⌜ r ≡ liveAt (now (working .entry)) (now (transient .entry)) n w t key s ⌝ }
+    requires { ⌜ ShapedSlot (now working) (now transient) z s ⌝ }
+    ensures { λ r. ⌜ r ≡ liveAt z (table (now (working .entry)) (now (transient .entry))) (jobName key) s ⌝ }
 {
-    if image::contents::key_at(working, n, w, s) == key {
-        let h = image::header::header_at(working, n, s);
+    if image::name::named_at(working, z.n, z.w, s, key) {
+        let h = image::header::header_at(working, z.n, s);
         if image::header::payload(h.kind) {
-            transient::notes::retired_in(transient, n, t, s) == 0
+            transient::notes::retired_in(transient, z, s) == 0
         } else {
             false
         }
@@ -59,17 +61,15 @@ fn live_at(
 pub fn find_live(
     working: &[u32],
     transient: &[u32],
-    n: usize,
-    w: usize,
-    t: usize,
+    z: Sizes,
     key: u32,
 ) -> Found
-    requires { ⌜ Table (now working) (now transient) n w t ⌝ }
-    ensures { λ r. ⌜ r ≡ liveSlot (now (working .entry)) (now (transient .entry)) n w t key ⌝ }
+    requires { ⌜ Shaped (now working) (now transient) z ⌝ }
+    ensures { λ r. ⌜ r ≡ liveSlot z (table (now (working .entry)) (now (transient .entry))) (jobName key) ⌝ }
 {
     let mut s = 0;
-    while s < n {
-        if live_at(working, transient, n, w, t, key, s) {
+    while s < z.n {
+        if live_at(working, transient, z, key, s) {
             return Found::At(s);
         }
         s += 1;
@@ -81,18 +81,16 @@ pub fn find_live(
 fn live_up_to(
     working: &[u32],
     transient: &[u32],
-    n: usize,
-    w: usize,
-    t: usize,
+    z: Sizes,
     key: u32,
     s: usize,
     live: usize,
 ) -> usize
-    requires { ⌜ TableSlot (now working) (now transient) n w t s ⌝ }
-    ensures { λ r. ⌜ r ≡ sooner (liveAt (now (working .entry)) (now (transient .entry)) n w t key s) n s live ⌝ }
+    requires { ⌜ ShapedSlot (now working) (now transient) z s ⌝ }
+    ensures { λ r. ⌜ r ≡ sooner (liveAt z (table (now (working .entry)) (now (transient .entry))) (jobName key) s) (z .n) s live ⌝ }
 {
-    if live_at(working, transient, n, w, t, key, s) {
-        if live < n { live } else { s }
+    if live_at(working, transient, z, key, s) {
+        if live < z.n { live } else { s }
     } else {
         live
     }
@@ -102,25 +100,23 @@ fn live_up_to(
 pub fn look_up(
     working: &[u32],
     transient: &[u32],
-    n: usize,
-    w: usize,
-    t: usize,
+    z: Sizes,
     key: u32,
     e: u32,
 ) -> Lookup
-    requires { ⌜ Table (now working) (now transient) n w t ⌝ }
-    ensures { λ r. ⌜ r ≡ lookup (now (working .entry)) (now (transient .entry)) n w t key e ⌝ }
+    requires { ⌜ Shaped (now working) (now transient) z ⌝ }
+    ensures { λ r. ⌜ r ≡ lookup z (table (now (working .entry)) (now (transient .entry))) (jobName key) e ⌝ }
 {
-    let mut live = n;
+    let mut live = z.n;
     let mut s = 0;
-    while s < n {
-        if newer_at(working, n, w, key, e, s) {
-            return Lookup::Newer;
+    while s < z.n {
+        if newer_at(working, z, key, e, s) {
+            return Lookup::Later;
         }
-        live = live_up_to(working, transient, n, w, t, key, s, live);
+        live = live_up_to(working, transient, z, key, s, live);
         s += 1;
     }
-    if live < n {
+    if live < z.n {
         Lookup::Live(live)
     } else {
         Lookup::Absent
@@ -168,22 +164,22 @@ pub fn free_slot(working: &[u32], n: usize, last: usize, steps: usize) -> Found
 }
 
 // The slot to take where one free slot is enough.
-pub fn room_for_one(working: &[u32], n: usize, last: usize) -> Found
-    requires { ⌜ Rooms (now working) n last ⌝ }
-    ensures { λ r. ⌜ r ≡ room (now (working .entry)) n last 1 ⌝ }
+pub fn room_for_one(working: &[u32], transient: &[u32], z: Sizes) -> Found
+    requires { ⌜ Entered (now working) (now transient) z ⌝ }
+    ensures { λ r. ⌜ r ≡ room z (table (now (working .entry)) (now (transient .entry))) 1 ⌝ }
 {
-    free_slot(working, n, last, n)
+    free_slot(working, z.n, transient::notes::last_taken(transient), z.n)
 }
 
 // The slot to take where two must be free, so that a full board can still be emptied.
-pub fn room_for_two(working: &[u32], n: usize, last: usize) -> Found
-    requires { ⌜ Rooms (now working) n last ⌝ }
-    ensures { λ r. ⌜ r ≡ room (now (working .entry)) n last 2 ⌝ }
+pub fn room_for_two(working: &[u32], transient: &[u32], z: Sizes) -> Found
+    requires { ⌜ Entered (now working) (now transient) z ⌝ }
+    ensures { λ r. ⌜ r ≡ room z (table (now (working .entry)) (now (transient .entry))) 2 ⌝ }
 {
-    let Found::At(s) = free_slot(working, n, last, n) else {
+    let Found::At(s) = free_slot(working, z.n, transient::notes::last_taken(transient), z.n) else {
         return Found::Nothing;
     };
-    match free_slot(working, n, s, n - 1) {
+    match free_slot(working, z.n, s, z.n - 1) {
         Found::At(_) => Found::At(s),
         Found::Nothing => Found::Nothing,
     }

@@ -1,0 +1,1 @@
+// Begin and end: a thread's operation.

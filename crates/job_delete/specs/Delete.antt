@@ -1,0 +1,56 @@
+-- 01: "Delete of an ALLOC labelled e frees the working slot at once. An UPDATE labelled e becomes DELETE in its own slot, contents
+-- kept. For an older payload a free slot takes a DELETE (label e, same uid and key, value words 0), and the payload is retired in e."
+use Prim.Native.Nat.{ℕ, _-_}
+use mathlib.Core.Bool.{cond}
+use mathlib.Core.List.{_∷_}
+use lib.ListN.{replicate}
+use lib.Dec.{eqb}
+use Rattle.reply.specs.declared.Check.{Check}
+use Rattle.reply.specs.declared.Check.the-variants.{Accepted}
+use Rattle.reply.specs.declared.Refusal.the-variants.{Newer, NoJob}
+use Rattle.image.specs.Layout.{header, freeHeader, antiHeader}
+use Rattle.image.specs.Line.{headerLine, storeLine}
+use Rattle.image.specs.Name.{jobName}
+use Rattle.transient.specs.declared.sizes.Sizes.{Sizes}
+use Rattle.transient.specs.Layout.{setWaiting}
+use Rattle.transient.specs.Store.{Store, Table, Outcome}
+use Rattle.transient.specs.Calls.{Changed, changed, refused, onStore}
+use Rattle.table.specs.Find.{lookup, room}
+use Rattle.table.specs.Fill.{joined}
+use Rattle.table.specs.declared.find.Lookup.{Lookup}
+use Rattle.table.specs.declared.find.Lookup.the-variants.{Later, Live, Absent}
+use Rattle.jobs.specs.Job.{superseded}
+use Rattle.jobs.specs.Way.{wayIn, byWay}
+
+-- "Every slot that these calls change .. joins the waiting list of e, the slot freed at once included."
+unfoldable pub freedAt : Sizes → Table → ℕ → ℕ → Changed
+freedAt z tb e s = changed Accepted (storeLine (tb .working) (headerLine s freeHeader)) (joined z (tb .transient) e s)
+
+unfoldable pub turned : Sizes → Table → ℕ → ℕ → Changed
+turned z tb e s =
+    changed Accepted (storeLine (tb .working) (headerLine s (antiHeader e (header (tb .working) s .uid)))) (setWaiting z (tb .transient) e s)
+
+unfoldable pub covered : Sizes → Table → ℕ → ℕ → ℕ → Changed
+covered z tb e s key =
+    superseded (room z tb 1) z tb e s (antiHeader e (header (tb .working) s .uid)) (key ∷ replicate (z .w - 1) 0)
+
+unfoldable pub deleteAt : Sizes → Table → ℕ → ℕ → ℕ → Changed
+deleteAt z tb e s key =
+    cond (eqb (header (tb .working) s .epoch) e)
+    (cond (eqb (header (tb .working) s .kind) 1) (freedAt z tb e s) (turned z tb e s))
+    (covered z tb e s key)
+
+-- 9; 10
+abbrev pub deleteLooked : Lookup → Sizes → Table → ℕ → ℕ → Changed
+deleteLooked Later z tb e key = refused Newer tb
+deleteLooked (Live s) z tb e key = deleteAt z tb e s key
+deleteLooked Absent z tb e key = refused NoJob tb
+
+unfoldable pub deleteOpen : Sizes → Table → ℕ → ℕ → Changed
+deleteOpen z tb key e = deleteLooked (lookup z tb (jobName key) e) z tb e key
+
+unfoldable pub deleteSized : ℕ → ℕ → Sizes → Table → Changed
+deleteSized thread key z tb = byWay (wayIn z (tb .transient) thread (eqb key 0)) tb (deleteOpen z tb key)
+
+unfoldable pub deleteJob : Store → ℕ → ℕ → Outcome Check
+deleteJob st thread key = onStore st (deleteSized thread key)

@@ -1,0 +1,2 @@
+// What the calls of an open operation share: how they begin, and how a later version or an anti-payload takes a slot.
+pub mod way;
