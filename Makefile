@@ -43,7 +43,7 @@ $(lister): $(call sources,lister)
 test:
 	@.ci/run
 
-target/demo/demo: demo/demo.c demo/early.c bench/rules.c bench/rules.h include/board.h $(library)
+target/demo/demo: demo/demo.c demo/early.c bench/byhand.c bench/byhand.h include/board.h $(library)
 	@tools/need gcc=gcc stdio.h=libc6-dev
 	@mkdir -p $(@D)
 	@$(CC) $(CFLAGS) -I include demo/demo.c demo/early.c $(library) -o $@
@@ -51,11 +51,11 @@ target/demo/demo: demo/demo.c demo/early.c bench/rules.c bench/rules.h include/b
 demo: target/demo/demo
 	@$< --cuts $(CUTS) $(if $(SEED),--seed $(SEED))
 
-target/bench/%: bench/%.c bench/measure.h bench/rules.c bench/rules.h include/board.h $(library)
+target/bench/%: bench/%.c bench/measure.h bench/byhand.c bench/byhand.h include/board.h $(library)
 	@tools/need gcc=gcc stdio.h=libc6-dev
 	@tools/need sqlite3.h=libsqlite3-dev lmdb.h=liblmdb-dev valgrind=valgrind valgrind/callgrind.h=valgrind
 	@mkdir -p $(@D)
-	@$(CC) $(CFLAGS) -D_GNU_SOURCE -I include $< bench/rules.c $(library) -lsqlite3 -llmdb -o $@
+	@$(CC) $(CFLAGS) -D_GNU_SOURCE -I include $< bench/byhand.c $(library) -lsqlite3 -llmdb -o $@
 
 bench: target/bench/bench target/bench/durable
 	@bench/run target/bench

@@ -2,8 +2,8 @@
    is left, and the library's recovery makes a board of it again. What it gives is held against the desk's own log.
    Usage: demo [--seed NUMBER] [--cuts one|all] [--jobs NUMBER] [--stops NUMBER] */
 
-#define RULES(name) early_##name
-#include "../bench/rules.h"
+#define BYHAND(name) early_##name
+#include "../bench/byhand.h"
 
 #include <inttypes.h>
 #include <stdbool.h>
