@@ -4,7 +4,7 @@ use simulator::calls::{refusal_of, simulate, Call};
 use simulator::damage::{damaged_store, wild_store};
 use simulator::generator::{any_call, start, trace, unformatted, Mix};
 use simulator::random::Random;
-use simulator::trace::{replay, shrink, simulated, Counts};
+use simulator::trace::{replay, shrink, simulated, Counts, WithinSyncs};
 
 #[test]
 fn every_crash_leaves_the_reference_map() {
@@ -18,8 +18,11 @@ fn every_crash_leaves_the_reference_map() {
         }
     }
     println!("seeds 0 to 2999, {} calls, {} crashes, {} went on", counts.calls, counts.crashes, counts.went_on);
+    println!("{}", counts.within_syncs);
     println!("refusals {:?}", counts.refusals);
     assert!(counts.crashes > 50_000 && counts.went_on > 25_000);
+    let least = WithinSyncs { syncs: 2000, underway: 500, lines: 10_000, changing: 3000 };
+    assert!(counts.within_syncs.are_at_least(least), "too little written back within syncs: {}", counts.within_syncs);
     assert!(counts.refusals[5..].iter().all(|&seen| seen >= 100), "{:?}", counts.refusals);
 }
 
