@@ -15,7 +15,7 @@
 enum { FREE, ALLOC, UPDATE, DELETE };
 enum { KIND, EPOCH, UID, HEADER_WORDS };
 enum { SLOTS, WORDS, CLOCK, PREFIX };
-enum { LAST_TAKEN, NEXT_UID, PHASE, PLACE_SLOT, NOTES };
+enum { NOTED_SLOTS, LAST_TAKEN, NEXT_UID, PHASE, PLACE_SLOT, NOTES };
 enum { IDLE, RECLAIMING, CONTENTS, HEADER, TICK };
 enum { MOST_SLOTS = 1024, MOST_WORDS = 9, MOST_THREADS = 16, MOST_IMAGE = 12291 };
 #define LARGEST UINT32_C(4000000000)
@@ -60,8 +60,8 @@ static uint32_t enter(struct board *b, READ_STORE)
         working[SLOTS] != persistent[SLOTS] || working[WORDS] != persistent[WORDS])
         return BOARD_SIZES;
     size_t slots = working[SLOTS];
-    if (!notes_length_ok(transient_words, slots) || transient[LAST_TAKEN] >= slots ||
-        transient[PLACE_SLOT] >= slots || transient[NEXT_UID] - 1 > LARGEST)
+    if (!notes_length_ok(transient_words, slots) || transient[NOTED_SLOTS] != slots ||
+        transient[LAST_TAKEN] >= slots || transient[PLACE_SLOT] >= slots || transient[NEXT_UID] - 1 > LARGEST)
         return BOARD_SIZES;
     uint32_t clock = working[CLOCK];
     if (!clock_ok(clock) || persistent[CLOCK] != clock)
@@ -102,6 +102,7 @@ uint32_t BYHAND(format)(STORE, uint32_t slots, uint32_t words)
     working[CLOCK] = 2;
     memcpy(persistent, working, working_words * sizeof *working);
     memset(transient, 0, transient_words * sizeof *transient);
+    transient[NOTED_SLOTS] = slots;
     transient[LAST_TAKEN] = slots - 1;
     transient[NEXT_UID] = 1;
     return 0;
@@ -510,6 +511,7 @@ uint64_t BYHAND(recover)(STORE)
     }
     memcpy(working, persistent, persistent_words * sizeof *working);
     memset(transient, 0, transient_words * sizeof *transient);
+    transient[NOTED_SLOTS] = (uint32_t)slots;
     transient[LAST_TAKEN] = (uint32_t)slots - 1;
     transient[NEXT_UID] = uid + 1;
     return BOARD_DONE;
