@@ -18,6 +18,7 @@ SEED ?=
 
 library := target/staticlib/libboard.a
 lister := target/bin/lister
+demo_files := demo/demo.c demo/cuts.c demo/desk.c demo/early.c
 # The files of a crate and of all that it stands on.
 sources = crates.txt $(shell find $(addprefix crates/,$(1) $(shell sed -n 's/^$(1): *//p' crates.txt)) \
 	\( -name '*.rt' -o -name '*.antt' \) 2> /dev/null)
@@ -43,19 +44,19 @@ $(lister): $(call sources,lister)
 test:
 	@.ci/run
 
-target/demo/demo: demo/demo.c demo/early.c bench/rules.c bench/rules.h include/board.h $(library)
+target/demo/demo: $(demo_files) demo/cuts.h demo/desk.h bench/byhand.c bench/byhand.h include/board.h $(library)
 	@tools/need gcc=gcc stdio.h=libc6-dev
 	@mkdir -p $(@D)
-	@$(CC) $(CFLAGS) -I include demo/demo.c demo/early.c $(library) -o $@
+	@$(CC) $(CFLAGS) -I include $(demo_files) $(library) -o $@
 
 demo: target/demo/demo
 	@$< --cuts $(CUTS) $(if $(SEED),--seed $(SEED))
 
-target/bench/%: bench/%.c bench/measure.h bench/rules.c bench/rules.h include/board.h $(library)
+target/bench/%: bench/%.c bench/measure.h bench/byhand.c bench/byhand.h include/board.h $(library)
 	@tools/need gcc=gcc stdio.h=libc6-dev
 	@tools/need sqlite3.h=libsqlite3-dev lmdb.h=liblmdb-dev valgrind=valgrind valgrind/callgrind.h=valgrind
 	@mkdir -p $(@D)
-	@$(CC) $(CFLAGS) -D_GNU_SOURCE -I include $< bench/rules.c $(library) -lsqlite3 -llmdb -o $@
+	@$(CC) $(CFLAGS) -D_GNU_SOURCE -I include $< bench/byhand.c $(library) -lsqlite3 -llmdb -o $@
 
 bench: target/bench/bench target/bench/durable
 	@bench/run target/bench

@@ -1,11 +1,11 @@
-/* The library against the same rules by hand in C (rules.c). Each call is made by both on equal stores, and replies
+/* The library against the same rules by hand in C (byhand.c). Each call is made by both on equal stores, and replies
    and every word they left are compared while it runs.
    Usage: bench --quick          comparisons alone, a few of each
           bench --times          the same, timed: a line for each call and size
           bench --counts         once each, between callgrind's marks: run it under callgrind */
 
 #include "measure.h"
-#include "rules.h"
+#include "byhand.h"
 
 #include <inttypes.h>
 #include <stdbool.h>
@@ -16,7 +16,7 @@
 
 enum { WORDS = 4, VALUE_WORDS = WORDS - 1, THREADS = 4, MOST_COPIES = 64, MOST_ROUNDS = 400 };
 
-static const struct calls sides[] = {CALLS(board), CALLS(rules)};
+static const struct calls sides[] = {CALLS(board), CALLS(byhand)};
 static const char *const side_names[] = {"library", "C"};
 
 /* A store, and the key that the measured call takes. */

@@ -8,8 +8,12 @@
  *
  * An image of N slots (2 to 1,024) with W words of contents each (2 to 9) has 3 + 3N + WN words:
  * N, W, the clock, then N headers (kind, epoch, uid), then N contents (key, W - 1 value words).
- * The notes of T threads (1 to 16) have 4 + T + 3N words. board_image_words and
- * board_transient_words work these out.
+ * The notes of T threads (1 to 16) have 5 + T + 3N words and begin with N; T is what their length
+ * leaves. board_image_words and board_transient_words work the lengths out.
+ *
+ * The three belong together: a call refuses images that differ in N or W, and notes of another N
+ * (BOARD_SIZES). It cannot tell the notes of another store with the same N from the right ones.
+ * Format and recover judge only the lengths of what they fill, not the words that stand there.
  *
  * A JOB is a key other than 0 and a value of W - 1 words. Jobs are changed within an operation:
  * begin, then any new, set and delete, then end. The clock counts epochs, and an operation belongs
@@ -58,8 +62,8 @@ extern "C" {
 /* Why a call declines. A call that declines for several reasons gives the lowest number. Any call on
  * a store but format can give BOARD_SIZES and BOARD_CLOCK; the others are named at the calls. */
 enum board_refusal {
-    BOARD_SIZES = 1,         /* N, W or T out of range, a length that does not fit them, or notes that
-                                name no slot */
+    BOARD_SIZES = 1,         /* N, W or T out of range, a length that does not fit them, images or notes
+                                of different sizes, or notes with a slot or next uid out of range */
     BOARD_CLOCK = 2,         /* the clock is not between 2 and 4,000,000,000, the images' clocks differ,
                                 or an operation is open in neither the clock's epoch nor the one before */
     BOARD_BAD_SLOT = 3,      /* a header neither free nor proper, or a surviving job with key 0 */
@@ -88,7 +92,7 @@ static inline const char *board_refusal_text(uint64_t answer)
 {
     switch (answer >= BOARD_REFUSED ? answer - BOARD_REFUSED : answer) {
     case 0: return "accepted";
-    case BOARD_SIZES: return "the sizes are out of range or do not fit the lengths";
+    case BOARD_SIZES: return "the sizes are out of range, or images, notes and lengths do not agree";
     case BOARD_CLOCK: return "the clock is out of range, or clocks and open operations do not agree";
     case BOARD_BAD_SLOT: return "a slot of the image is damaged";
     case BOARD_DUPLICATE: return "a job stands twice in the image";

@@ -30,7 +30,7 @@ int main(void)
     texts();
     const size_t n = board_image_words(SLOTS, WORDS), tn = board_transient_words(SLOTS, THREADS);
     same("the length of an image", n, 3 + 3 * SLOTS + WORDS * SLOTS);
-    same("the length of the notes", tn, 4 + THREADS + 3 * SLOTS);
+    same("the length of the notes", tn, 5 + THREADS + 3 * SLOTS);
     uint32_t *w = block(n), *p = block(n), *t = block(tn);
     const uint32_t first[VALUE_WORDS] = {11, 12, 13}, second[VALUE_WORDS] = {21, 0, 23};
 

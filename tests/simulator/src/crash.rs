@@ -22,6 +22,9 @@ pub fn check_crash(
     if clock != reference.clock {
         return Err(format!("the crash finds clock {clock}, the reference map has {}", reference.clock));
     }
+    if !reference.keeps_what_was_synced(clock) {
+        return Err(format!("at clock {clock} an operation that ended before a sync is absent"));
+    }
     let (recovered, went_on) = recover_fully(store, random, engine)?;
     let wanted = reference.jobs_after_crash(clock);
     for image in [&recovered.working, &recovered.persistent] {

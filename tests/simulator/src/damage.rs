@@ -3,7 +3,7 @@
 use crate::image::{Header, Sizes, CLOCK, FIRST_CLOCK, LARGEST};
 use crate::random::Random;
 use crate::store::Store;
-use crate::transient::{Layout, LAST_TAKEN, PHASE, PLACE_SLOT};
+use crate::transient::{Layout, LAST_TAKEN, NOTED_SLOTS, PHASE, PLACE_SLOT};
 
 /// A clock near one of its ends, or small.
 pub fn any_clock(random: &mut Random) -> u32 {
@@ -88,12 +88,12 @@ pub fn edge_word(random: &mut Random, near: u32) -> u32 {
     }
 }
 
-/// Replaces one word; those near the start, which hold sizes and headers, more often than others.
+/// Replaces one word; those near the start, which hold sizes, headers and notes, more often than others.
 pub fn damage_word(random: &mut Random, words: &mut [u32]) {
     if words.is_empty() {
         return;
     }
-    let reach = if random.chance(25) { words.len().min(4) } else { words.len() };
+    let reach = if random.chance(25) { words.len().min(5) } else { words.len() };
     let place = random.below(reach);
     words[place] = edge_word(random, words[place]);
 }
@@ -123,9 +123,22 @@ pub fn any_image(random: &mut Random, sizes: Sizes) -> Vec<u32> {
     image
 }
 
-/// A copy with a few words replaced and now and then a wrong length.
+/// A copy with a few words replaced and now and then a wrong length; or a copy in which all is sound but the notes,
+/// which say another N, alone or with the T that it leaves for their length.
 pub fn damaged_store(random: &mut Random, store: &Store) -> Store {
     let mut store = store.clone();
+    let other_notes = notes_of_other_sizes(&store);
+    if random.chance(10) && !other_notes.is_empty() {
+        store.transient = random.pick(&other_notes);
+        if random.chance(50) {
+            store.transient[LAST_TAKEN] = random.between(0, 1);
+        }
+        return store;
+    }
+    if random.chance(10) && !store.transient.is_empty() {
+        store.transient[NOTED_SLOTS] = edge_word(random, store.transient[NOTED_SLOTS]);
+        return store;
+    }
     for _ in 0..random.between(1, 3) {
         let slice = random.below(3);
         damage_word(random, store.slices()[slice]);
@@ -135,6 +148,14 @@ pub fn damaged_store(random: &mut Random, store: &Store) -> Store {
         damage_length(random, store.slices()[slice]);
     }
     store
+}
+
+/// The notes that format leaves for every other N and T of which they are as long as the store's.
+pub fn notes_of_other_sizes(store: &Store) -> Vec<Vec<u32>> {
+    let Some(sizes) = Sizes::of(&store.working) else { return Vec::new() };
+    let length = store.transient.len();
+    let others = (2..=1024).filter(|&slots| slots != sizes.slots);
+    others.filter_map(|slots| Some(Layout::of(length, slots)?.blank(1))).collect()
 }
 
 /// A store that passes the check at entry and is otherwise arbitrary: headers of any kind, images that have

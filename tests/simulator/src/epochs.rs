@@ -101,7 +101,7 @@ fn set_place(store: &mut Store, phase: u32, slot: usize) {
     store.transient[PLACE_SLOT] = slot as u32;
 }
 
-/// "A step that passes slot N − 1 goes to the next phase at slot 0."
+/// The place after a step: the slot after this one, or past the last slot the next phase at slot 0.
 fn pass(store: &mut Store, entry: &Entry, slot: usize, phase: u32, next_phase: u32) {
     if slot + 1 < entry.sizes.slots {
         set_place(store, phase, slot + 1);

@@ -1,11 +1,11 @@
 //! Random starts and random calls, most of them sensible for the store at hand.
 
-use crate::calls::{image_words, simulate, transient_words, Call, WENT_ON};
+use crate::calls::{image_words, refusal_of, simulate, transient_words, Call, WENT_ON};
 use crate::damage::{acceptable_image, any_clock, edge_word};
 use crate::image::Sizes;
 use crate::random::Random;
 use crate::store::{Entry, Store};
-use crate::trace::Trace;
+use crate::trace::{Event, Line, Trace};
 
 /// A store whose three slices have the right lengths and hold any words.
 pub fn unformatted(random: &mut Random, slots: u32, words: u32, threads: u32) -> Store {
@@ -47,20 +47,72 @@ fn recover_fully(store: &mut Store) {
 /// A start and calls on it, made up by watching the simulator.
 pub fn trace(random: &mut Random, slots: u32, length: usize) -> Trace {
     let start = start(random, slots);
-    let calls = some_calls(random, &mut start.clone(), length);
-    Trace { start, calls }
+    let events = some_calls(random, &mut start.clone(), length);
+    Trace { start, events }
 }
 
-fn some_calls(random: &mut Random, store: &mut Store, length: usize) -> Vec<Call> {
+fn some_calls(random: &mut Random, store: &mut Store, length: usize) -> Vec<Event> {
     let slots = store.working[0];
     let mix = Mix { advances: random.pick(&[15, 45, 65]), keys: random.between(2, slots + 2) };
-    let mut calls = Vec::new();
-    for _ in 0..length {
+    calls_of(random, store, mix, length)
+}
+
+/// Calls on the store, which is left as they leave it.
+pub fn calls_of(random: &mut Random, store: &mut Store, mix: Mix, length: usize) -> Vec<Event> {
+    let mut events = Vec::new();
+    while events.len() < length {
         let call = any_call(random, store, mix);
-        simulate(store, &call);
-        calls.push(call);
+        if call == Call::Sync && random.chance(67) {
+            events.extend(end_of_each(store));
+            events.push(Event::Sync(lines_within_a_sync(random, store)));
+        } else {
+            events.push(Event::Call(call));
+        }
+        simulate(store, events[events.len() - 1].call());
     }
-    calls
+    events
+}
+
+/// Ends the open operations, which would keep a sync from being accepted.
+fn end_of_each(store: &mut Store) -> Vec<Event> {
+    let threads = store.enter().map_or(0, |entry| entry.layout.threads as u32);
+    let ends = (0..threads).map(|thread| Call::End { thread });
+    ends.filter(|end| simulate(store, end) == 0).map(Event::Call).collect()
+}
+
+/// Up to three lines before each advance call of a sync on this store, none where it is refused.
+fn lines_within_a_sync(random: &mut Random, store: &Store) -> Vec<Vec<Line>> {
+    let mut store = store.clone();
+    let reply = simulate(&mut store.clone(), &Call::Sync);
+    let advances = if refusal_of(&Call::Sync, reply) == 0 { reply } else { 0 };
+    let mut lines = Vec::new();
+    for _ in 0..advances {
+        let mut before_it = Vec::new();
+        for _ in 0..random.below(4) {
+            let (slot, line) = any_line(random, &store);
+            simulate(&mut store, &Call::WriteBack { slot, line });
+            before_it.push((slot, line));
+        }
+        lines.push(before_it);
+        simulate(&mut store, &Call::Advance);
+    }
+    lines
+}
+
+/// Any line, most often one that differs in the two images.
+fn any_line(random: &mut Random, store: &Store) -> Line {
+    let sizes = Sizes::of(&store.working).expect("a run keeps the sizes");
+    let differs = |&(slot, line): &Line| {
+        let part = if line == 0 { sizes.contents_line(slot as usize) } else { sizes.header_line(slot as usize) };
+        store.working[part.clone()] != store.persistent[part]
+    };
+    let all = (0..sizes.slots as u32).flat_map(|slot| [(slot, 0), (slot, 1)]);
+    let differing: Vec<Line> = all.filter(differs).collect();
+    if differing.is_empty() || random.chance(30) {
+        (random.below(sizes.slots) as u32, random.between(0, 1))
+    } else {
+        random.pick(&differing)
+    }
 }
 
 /// How often a call has to do with epochs, in percent, and how many keys are in play.

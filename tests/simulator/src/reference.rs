@@ -13,20 +13,24 @@ struct Change {
 }
 
 /// "It keeps a clock (first the store's), each thread's open operation (first none) and a row of changes
-/// (first empty)."
+/// (first empty)." Beside these, the latest epoch of an operation that has ended, and of one that had ended when a
+/// sync last reported done.
 #[derive(Clone)]
 pub struct Reference {
     pub clock: u32,
     start: Jobs,
     open: [u32; 16],
     row: Vec<Change>,
+    ended: u32,
+    durable: u32,
 }
 
 impl Reference {
     /// "The starting jobs (survivors of the starting lasting image)"
     pub fn of(store: &Store) -> Result<Reference, Refusal> {
         let start = surviving_jobs(&store.persistent)?;
-        Ok(Reference { clock: store.persistent[CLOCK], start, open: [0; 16], row: Vec::new() })
+        let clock = store.persistent[CLOCK];
+        Ok(Reference { clock, start, open: [0; 16], row: Vec::new(), ended: 0, durable: 0 })
     }
 
     /// "An accepted begin opens an operation whose epoch is that clock"
@@ -35,6 +39,7 @@ impl Reference {
     }
 
     pub fn ended(&mut self, thread: u32) {
+        self.ended = self.ended.max(self.open[thread as usize]);
         self.open[thread as usize] = 0;
     }
 
@@ -48,20 +53,20 @@ impl Reference {
         self.clock += 1;
     }
 
-    /// The jobs with every change of the row made.
-    pub fn all_jobs(&self) -> Jobs {
-        self.jobs_with(|_| true)
+    /// A sync reported done.
+    pub fn synced(&mut self) {
+        self.durable = self.ended;
     }
 
-    /// "An operation is present if its epoch is at most c − 2 ... new and set give the key the value, delete
-    /// takes it away."
+    /// Whether every operation that had ended when a sync last reported done is present.
+    pub fn keeps_what_was_synced(&self, clock: u32) -> bool {
+        is_present(self.durable, clock)
+    }
+
+    /// "new and set give the key the value, delete takes it away."
     pub fn jobs_after_crash(&self, clock: u32) -> Jobs {
-        self.jobs_with(|epoch| epoch + 2 <= clock)
-    }
-
-    fn jobs_with(&self, is_present: impl Fn(u32) -> bool) -> Jobs {
         let mut jobs = self.start.clone();
-        for change in self.row.iter().filter(|change| is_present(change.epoch)) {
+        for change in self.row.iter().filter(|change| is_present(change.epoch, clock)) {
             match &change.value {
                 Some(value) => jobs.insert(change.key, value.clone()),
                 None => jobs.remove(&change.key),
@@ -69,4 +74,9 @@ impl Reference {
         }
         jobs
     }
+}
+
+/// "An operation is present if its epoch is at most c − 2"
+fn is_present(epoch: u32, clock: u32) -> bool {
+    epoch + 2 <= clock
 }

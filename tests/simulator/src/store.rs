@@ -33,7 +33,7 @@ impl Store {
             return Err(1);
         }
         let layout = Layout::of(self.transient.len(), sizes.slots).ok_or(1u32)?;
-        if !layout.are_in_range(&self.transient) {
+        if !layout.fits(&self.transient) {
             return Err(1);
         }
         let clock = self.working[CLOCK];

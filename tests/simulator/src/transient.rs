@@ -1,13 +1,14 @@
-//! The layout of the notes: 4 + T + 3N words, T being what their length leaves.
+//! The layout of the notes: 5 + T + 3N words. They say their N; T is what their length leaves.
 
 use crate::image::LARGEST;
 
-/// "the last slot taken", "the next uid", and the place of an advance: phase and slot.
-pub const LAST_TAKEN: usize = 0;
-pub const NEXT_UID: usize = 1;
-pub const PHASE: usize = 2;
-pub const PLACE_SLOT: usize = 3;
-const PREFIX: usize = 4;
+/// N, "the last slot taken", "the next uid", and the place of an advance: phase and slot.
+pub const NOTED_SLOTS: usize = 0;
+pub const LAST_TAKEN: usize = 1;
+pub const NEXT_UID: usize = 2;
+pub const PHASE: usize = 3;
+pub const PLACE_SLOT: usize = 4;
+const PREFIX: usize = 5;
 
 /// Where things stand in the notes of a board of so many slots and threads.
 #[derive(Clone, Copy, PartialEq, Eq, Debug)]
@@ -47,15 +48,17 @@ impl Layout {
     /// "Nothing is open, retired, waiting or underway", and the search begins at slot 0.
     pub fn blank(self, next_uid: u32) -> Vec<u32> {
         let mut transient = vec![0; self.words()];
+        transient[NOTED_SLOTS] = self.slots as u32;
         transient[LAST_TAKEN] = self.slots as u32 - 1;
         transient[NEXT_UID] = next_uid;
         transient
     }
 
-    /// "a note naming a slot not below N, or a next uid outside 1 to 4,000,000,001"
-    pub fn are_in_range(self, transient: &[u32]) -> bool {
+    /// "the images or notes differ in sizes; a note naming a slot not below N, or a next uid outside 1 to 4,000,000,001"
+    pub fn fits(self, transient: &[u32]) -> bool {
         let names_slot = |word: u32| (word as usize) < self.slots;
-        names_slot(transient[LAST_TAKEN])
+        transient[NOTED_SLOTS] as usize == self.slots
+            && names_slot(transient[LAST_TAKEN])
             && names_slot(transient[PLACE_SLOT])
             && (1..=LARGEST + 1).contains(&transient[NEXT_UID])
     }

@@ -4,7 +4,7 @@ use simulator::calls::{refusal_of, simulate, Call};
 use simulator::damage::{damaged_store, wild_store};
 use simulator::generator::{any_call, start, trace, unformatted, Mix};
 use simulator::random::Random;
-use simulator::trace::{replay, shrink, simulated, Counts};
+use simulator::trace::{replay, shrink, simulated, Counts, WithinSyncs};
 
 #[test]
 fn every_crash_leaves_the_reference_map() {
@@ -17,10 +17,13 @@ fn every_crash_leaves_the_reference_map() {
             panic!("seed {seed}: {}", shrink(trace, &mut simulated));
         }
     }
-    println!("seeds 0 to 2999, {} calls, {} crashes, {} went on", counts.calls, counts.crashes, counts.went_on);
-    println!("refusals {:?}", counts.refusals);
-    assert!(counts.crashes > 50_000 && counts.went_on > 25_000);
-    assert!(counts.refusals[5..].iter().all(|&seen| seen >= 100), "{:?}", counts.refusals);
+    let Counts { calls, crashes, went_on, refusals, within_syncs } = &counts;
+    println!("seeds 0 to 2999, {calls} calls, {crashes} crashes, {went_on} went on, {within_syncs}");
+    println!("refusals {refusals:?}");
+    assert!(*crashes > 50_000 && *went_on > 25_000);
+    let least = WithinSyncs { syncs: 2000, underway: 500, lines: 10_000, changing: 3000 };
+    assert!(within_syncs.are_at_least(least), "too little written back within syncs: {within_syncs}");
+    assert!(refusals[5..].iter().all(|&seen| seen >= 100), "{refusals:?}");
 }
 
 #[test]

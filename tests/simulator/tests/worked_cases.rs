@@ -3,7 +3,7 @@
 mod common;
 
 use common::{delete, fresh, make, new, tick, BEGIN, END};
-use simulator::calls::{image_words, refused, simulate, transient_words, Call, DONE, WENT_ON};
+use simulator::calls::{image_words, refusal_of, refused, simulate, transient_words, Call, DONE, WENT_ON};
 use simulator::image::{Header, ALLOC, DELETE, UPDATE};
 use simulator::lister::{bytes_of, clock_answer, listing, survivors_answer};
 use simulator::recovery::judge;
@@ -20,7 +20,7 @@ fn a_slot_is_kept_from_label_plus_two_on() {
 fn lengths_are_exact() {
     assert_eq!([image_words(2, 2), image_words(1024, 9)], [13, 12_291]);
     assert_eq!([image_words(1, 2), image_words(1025, 2), image_words(2, 1), image_words(2, 10)], [0; 4]);
-    assert_eq!([transient_words(2, 1), transient_words(1024, 16)], [11, 3092]);
+    assert_eq!([transient_words(2, 1), transient_words(1024, 16)], [12, 3093]);
     assert_eq!([transient_words(2, 0), transient_words(2, 17), transient_words(1, 1)], [0; 3]);
 }
 
@@ -51,18 +51,58 @@ fn an_alloc_survives_until_its_delete_is_kept() {
 fn sizes_out_of_range_decline_with_1() {
     for (slots, words, threads) in [(1, 2, 1), (1025, 2, 1), (2, 1, 1), (2, 10, 1), (2, 2, 0), (2, 2, 17)] {
         let image = (3 + 3 * slots + words * slots) as usize;
-        let notes = (4 + threads + 3 * slots) as usize;
+        let notes = (5 + threads + 3 * slots) as usize;
         let mut store = Store { working: vec![0; image], persistent: vec![0; image], transient: vec![0; notes] };
         for head in [&mut store.working, &mut store.persistent] {
             head[..3].copy_from_slice(&[slots, words, 2]);
         }
-        store.transient[1] = 1;
+        store.transient[..3].copy_from_slice(&[slots, slots - 1, 1]);
         let before = store.clone();
         assert_eq!(simulate(&mut store, &Call::Format { slots, words }), 1);
         assert_eq!(simulate(&mut store, &Call::Recover), refused(1));
         assert_eq!(simulate(&mut store, &BEGIN), 1);
         assert_eq!(store, before);
     }
+}
+
+/// The notes of N 3, T 4 and of N 4, T 1 have 18 words both. They decline as format left them, and as a first job did.
+#[test]
+fn notes_of_other_sizes_decline_with_1() {
+    for ((slots, threads), (other_slots, other_threads)) in [((3, 4), (4, 1)), ((4, 1), (3, 4))] {
+        let mut store = fresh(slots, threads);
+        make(&mut store, &[BEGIN, new(0, 9)]);
+        let mut other = fresh(other_slots, other_threads);
+        declines_the_notes(&store, &other);
+        make(&mut other, &[BEGIN, new(0, 9), END]);
+        declines_the_notes(&store, &other);
+    }
+}
+
+/// Every call but format and recover declines with 1 and changes nothing; these two make the notes the store's own.
+fn declines_the_notes(store: &Store, other: &Store) {
+    let before = Store { transient: other.transient.clone(), ..store.clone() };
+    assert_eq!((store.transient.len(), before.transient.len()), (18, 18));
+    let calls = [
+        BEGIN,
+        END,
+        new(0, 8),
+        Call::Set { thread: 0, key: 9, value: vec![1] },
+        delete(0, 9),
+        Call::Read { thread: 0, key: 9 },
+        Call::ReadRefusal { thread: 0, key: 9 },
+        Call::Advance,
+        Call::Sync,
+        Call::WriteBack { slot: 0, line: 0 },
+    ];
+    for call in calls {
+        let mut after = before.clone();
+        let reply = simulate(&mut after, &call);
+        assert_eq!((refusal_of(&call, reply), &after), (1, &before), "{call:?}");
+    }
+    let [mut formatted, mut recovered] = [before.clone(), before];
+    make(&mut formatted, &[Call::Format { slots: store.working[0], words: 2 }, BEGIN]);
+    assert_eq!(simulate(&mut recovered, &Call::Recover), DONE);
+    make(&mut recovered, &[BEGIN]);
 }
 
 #[test]
@@ -89,12 +129,12 @@ fn a_board_of_2_with_one_job_is_full_and_can_be_emptied() {
 #[test]
 fn recovery_sets_the_next_uid_and_begins_at_slot_0() {
     let image = image_with(3, 2, 9, &[(ALLOC, 5, 6, 3), (UPDATE, 8, 7, 4)]);
-    let mut store = Store { working: vec![1; 18], persistent: image, transient: vec![1; 14] };
+    let mut store = Store { working: vec![1; 18], persistent: image, transient: vec![1; 15] };
     assert_eq!(simulate(&mut store, &Call::Recover), WENT_ON);
-    assert_eq!((store.working[0], store.transient[1]), (1, 1));
+    assert_eq!((store.working[0], &store.transient[..]), (1, &[1; 15][..]));
     assert_eq!(simulate(&mut store, &Call::Recover), DONE);
     assert_eq!(store.working, store.persistent);
-    assert_eq!(store.transient, [&[2, 7][..], &[0; 12]].concat());
+    assert_eq!(store.transient, [&[3, 2, 7][..], &[0; 12]].concat());
 }
 
 #[test]

@@ -1,5 +1,5 @@
-//! Runs of all calls with a crash after every lasting store, each recovery held against the reference map; and
-//! the same calls on damaged and wild stores.
+//! Runs of all calls with a crash after every lasting store, also within a sync and after the lines that the memory
+//! writes back there, each recovery held against the reference map; and the same calls on damaged and wild stores.
 //! Usage: crashes SEED RUNS
 
 use differential::library::{any, compare};
@@ -10,7 +10,7 @@ use simulator::generator::{any_call, trace, Mix};
 use simulator::image::{Sizes, CLOCK, LARGEST};
 use simulator::random::Random;
 use simulator::store::Store;
-use simulator::trace::{replay, shrink, Counts, Trace};
+use simulator::trace::{replay, shrink, Counts, Trace, WithinSyncs};
 
 const CALLS_OF_A_RUN: usize = 300;
 
@@ -32,12 +32,14 @@ fn main() {
             panic!("run {run} of seed {seed}: {what}");
         }
     }
-    let Counts { calls, crashes, went_on, refusals } = &counts;
+    let Counts { calls, crashes, went_on, refusals, within_syncs } = &counts;
     println!(
-        "{runs} runs, {calls} calls, {crashes} cuts, no difference, recover went on {went_on}, starts near 2 \
-         {starts_low} and near {LARGEST} {starts_high}, refusals by number {refusals:?}, seed {seed}"
+        "{runs} runs, {calls} calls, {crashes} cuts, no difference, recover went on {went_on}, {within_syncs}, starts \
+         near 2 {starts_low} and near {LARGEST} {starts_high}, refusals by number {refusals:?}, seed {seed}"
     );
     assert!(refusals[1..].iter().all(|&seen| seen >= 100), "too few of some refusal");
+    let least = WithinSyncs { syncs: 2 * runs, underway: runs / 2, lines: 20 * runs, changing: 4 * runs };
+    assert!(within_syncs.are_at_least(least), "too little written back within syncs");
     assert!(starts_low >= 100 && starts_high >= 100, "too few starts near some end of the clock");
 }
 
@@ -57,8 +59,8 @@ fn any_slots(random: &mut Random) -> u32 {
 /// images of any sort.
 fn side_steps(random: &mut Random, trace: &Trace, counts: &mut Counts) -> Result<(), String> {
     let mut end = trace.start.clone();
-    for call in &trace.calls {
-        simulate(&mut end, call);
+    for event in &trace.events {
+        simulate(&mut end, event.call());
     }
     for _ in 0..4 {
         let damaged = damaged_store(random, &end);

@@ -5,7 +5,7 @@
 use differential::library::{any, compare};
 use differential::numbers;
 use simulator::calls::{simulate, Call};
-use simulator::generator::{any_call, unformatted, Mix};
+use simulator::generator::{calls_of, unformatted, Mix};
 use simulator::random::Random;
 use simulator::store::Store;
 use simulator::trace::{replay_with_some_crashes, Counts, Trace};
@@ -13,30 +13,26 @@ use simulator::trace::{replay_with_some_crashes, Counts, Trace};
 const SLOTS: u32 = 1024;
 const WORDS: u32 = 9;
 const THREADS: u32 = 16;
-const CALLS_A_SECOND: u64 = 10;
+const CALLS_A_SECOND: usize = 10;
 
 fn main() {
     let [seed, seconds, stores] = numbers("day SEED SECONDS STORES");
     let mut random = Random::new(seed);
     let start = fresh(&mut random);
     let mut store = start.clone();
-    let mut calls = Vec::new();
-    for _ in 0..seconds * CALLS_A_SECOND {
-        let call = any_call(&mut random, &store, Mix { advances: 30, keys: 900 });
-        simulate(&mut store, &call);
-        calls.push(call);
-    }
+    let mix = Mix { advances: 30, keys: 900 };
+    let events = calls_of(&mut random, &mut store, mix, seconds as usize * CALLS_A_SECOND);
     let mut counts = Counts::default();
-    let trace = Trace { start, calls };
+    let trace = Trace { start, events };
     let mut compared = |store: &mut Store, call: &Call| compare(store, call, any);
     if let Err(what) = replay_with_some_crashes(&trace, &mut compared, &mut counts, stores) {
         panic!("seed {seed}: {what}");
     }
-    let Counts { calls, crashes, went_on, refusals } = &counts;
+    let Counts { calls, crashes, went_on, refusals, within_syncs } = &counts;
     let (first, last) = (trace.start.working[2], store.working[2]);
     println!(
         "{calls} calls on {SLOTS} slots and {THREADS} threads, clock {first} to {last}, {crashes} cuts, no difference, \
-         recover went on {went_on}, refusals by number {refusals:?}, seed {seed}"
+         recover went on {went_on}, {within_syncs}, refusals by number {refusals:?}, seed {seed}"
     );
 }
 

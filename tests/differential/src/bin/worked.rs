@@ -1,15 +1,16 @@
 //! The cases that 01 works out, on the library. Usage: worked
 
 use differential::library::{any, compare, lengths};
-use simulator::calls::{refused, Call, TICKED, WENT_ON};
+use simulator::calls::{refused, Call, DONE, TICKED, WENT_ON};
 use simulator::store::Store;
 
 const BEGIN: Call = Call::Begin { thread: 0 };
 const END: Call = Call::End { thread: 0 };
 
 fn main() {
-    let calls = sizes_out_of_range() + a_board_of_two() + lines_of_a_sync() + lines_of_a_quiet_sync();
-    println!("4 cases, {calls} calls");
+    let cases = [sizes_out_of_range, notes_of_other_sizes, a_board_of_two, lines_of_a_sync, lines_of_a_quiet_sync];
+    let calls: usize = cases.iter().map(|case| case()).sum();
+    println!("{} cases, {calls} calls", cases.len());
 }
 
 /// "N 1, N 1,025, W 1, W 10, T 0 and T 17 decline with 1."
@@ -18,26 +19,56 @@ fn sizes_out_of_range() -> usize {
     for (slots, words, threads) in [(1, 2, 1), (1025, 2, 1), (2, 1, 1), (2, 10, 1), (2, 2, 0), (2, 2, 17)] {
         assert!(lengths(slots, words, threads).contains(&0), "lengths for {slots}, {words}, {threads}");
         let mut store = sized(slots, words, threads);
-        let value = vec![0; words as usize - 1];
-        calls += make(
-            &mut store,
-            &[
-                (Call::Format { slots, words }, 1),
-                (BEGIN, 1),
-                (END, 1),
-                (new(9, &value), 1),
-                (set(9, &value), 1),
-                (delete(9), 1),
-                (read(9), refused(1)),
-                (Call::ReadRefusal { thread: 0, key: 9 }, 1),
-                (Call::Recover, refused(1)),
-                (Call::Advance, refused(1)),
-                (Call::Sync, refused(1)),
-                (Call::WriteBack { slot: 0, line: 0 }, 1),
-            ],
-        );
+        calls += make(&mut store, &[(Call::Format { slots, words }, 1), (Call::Recover, refused(1))]);
+        calls += each_declines_with_1(&mut store, &vec![0; words as usize - 1]);
     }
     calls
+}
+
+/// "the images or notes differ in sizes": a store with the notes of another N and T, as format left them and as a first
+/// job left them. They are as long as its own: N 3, T 4 and N 4, T 1 have 18 words both.
+fn notes_of_other_sizes() -> usize {
+    let pairs = [((3, 4), (4, 1)), ((4, 1), (3, 4)), ((1024, 1), (1023, 4)), ((2, 16), (7, 1))];
+    let mut calls = 0;
+    for ((slots, threads), (other_slots, other_threads)) in pairs {
+        let [mut own, mut other] = [sized(slots, 2, threads), sized(other_slots, 2, other_threads)];
+        calls += make(&mut own, &[(Call::Format { slots, words: 2 }, 0), (BEGIN, 0), (new(9, &[5]), 0)]);
+        calls += make(&mut other, &[(Call::Format { slots: other_slots, words: 2 }, 0)]);
+        calls += declined_notes(&own, &other);
+        calls += make(&mut other, &[(BEGIN, 0), (new(9, &[5]), 0), (END, 0)]);
+        calls += declined_notes(&own, &other);
+    }
+    calls
+}
+
+/// Format and recover fill the notes, which are the store's own then.
+fn declined_notes(own: &Store, other: &Store) -> usize {
+    assert_eq!(own.transient.len(), other.transient.len());
+    let mut store = Store { transient: other.transient.clone(), ..own.clone() };
+    let [slots, words] = [store.working[0], store.working[1]];
+    each_declines_with_1(&mut store, &[6])
+        + make(&mut store.clone(), &[(Call::Format { slots, words }, 0), (BEGIN, 0)])
+        + make(&mut store, &[(Call::Recover, DONE), (BEGIN, 0)])
+}
+
+/// Every call but format and recover declines with 1 and changes nothing.
+fn each_declines_with_1(store: &mut Store, value: &[u32]) -> usize {
+    let before = store.clone();
+    let calls = [
+        (BEGIN, 1),
+        (END, 1),
+        (new(8, value), 1),
+        (set(9, value), 1),
+        (delete(9), 1),
+        (read(9), refused(1)),
+        (Call::ReadRefusal { thread: 0, key: 9 }, 1),
+        (Call::Advance, refused(1)),
+        (Call::Sync, refused(1)),
+        (Call::WriteBack { slot: 0, line: 0 }, 1),
+    ];
+    let made = make(store, &calls);
+    assert_eq!(*store, before, "a refusal changes nothing");
+    made
 }
 
 /// "N 2, one job: a second new gives 13; deleting the first in a later epoch succeeds."
@@ -95,8 +126,8 @@ fn make(store: &mut Store, calls: &[(Call, u64)]) -> usize {
 fn sized(slots: u32, words: u32, threads: u32) -> Store {
     let mut image = vec![0; (3 + 3 * slots + words * slots) as usize];
     image[..3].copy_from_slice(&[slots, words, 2]);
-    let mut transient = vec![0; (4 + threads + 3 * slots) as usize];
-    transient[..2].copy_from_slice(&[slots - 1, 1]);
+    let mut transient = vec![0; (5 + threads + 3 * slots) as usize];
+    transient[..3].copy_from_slice(&[slots, slots - 1, 1]);
     Store { working: image.clone(), persistent: image, transient }
 }
 

@@ -130,19 +130,21 @@ impl Cases {
     /// Lengths around the right ones, for each slice alone; T 0 and T 17 among those of the notes.
     fn wrong_lengths(&mut self) {
         for image in small_images() {
-            let (length, slots) = (image.len(), image[0] as usize);
+            let (length, slots) = (image.len(), image[0]);
             let mut try_lengths = |working: usize, persistent: usize, transient: usize| {
                 let mut kept = image.clone();
                 kept.resize(persistent, 0);
                 let filled = |length| vec![u32::MAX; length];
                 self.recovery(Store { working: filled(working), persistent: kept, transient: filled(transient) });
             };
+            let one_thread = transient_words(slots, 1);
             for wrong in [0, 1, 2, 3, length - 1, length + 1, 2 * length] {
-                try_lengths(wrong, length, 5 + 3 * slots);
-                try_lengths(length, wrong, 5 + 3 * slots);
-                try_lengths(wrong, wrong, 5 + 3 * slots);
+                try_lengths(wrong, length, one_thread);
+                try_lengths(length, wrong, one_thread);
+                try_lengths(wrong, wrong, one_thread);
             }
-            for notes in [0, 1, 4, 3 + 3 * slots, 4 + 3 * slots, 5 + 3 * slots, 20 + 3 * slots, 21 + 3 * slots, 900] {
+            for notes in [0, 1, 4, 5, one_thread - 2, one_thread - 1, one_thread, one_thread + 15, one_thread + 16, 900]
+            {
                 try_lengths(length, length, notes);
             }
         }

@@ -1,7 +1,7 @@
 /* The rules of the board written by hand in C, with every check that the library makes, by one who would not prove
    anything: what the library's speed is measured against. The library uses nothing of this file. */
 
-#include "rules.h"
+#include "byhand.h"
 
 #include <stdbool.h>
 #include <string.h>
@@ -15,7 +15,7 @@
 enum { FREE, ALLOC, UPDATE, DELETE };
 enum { KIND, EPOCH, UID, HEADER_WORDS };
 enum { SLOTS, WORDS, CLOCK, PREFIX };
-enum { LAST_TAKEN, NEXT_UID, PHASE, PLACE_SLOT, NOTES };
+enum { NOTED_SLOTS, LAST_TAKEN, NEXT_UID, PHASE, PLACE_SLOT, NOTES };
 enum { IDLE, RECLAIMING, CONTENTS, HEADER, TICK };
 enum { MOST_SLOTS = 1024, MOST_WORDS = 9, MOST_THREADS = 16, MOST_IMAGE = 12291 };
 #define LARGEST UINT32_C(4000000000)
@@ -60,8 +60,8 @@ static uint32_t enter(struct board *b, READ_STORE)
         working[SLOTS] != persistent[SLOTS] || working[WORDS] != persistent[WORDS])
         return BOARD_SIZES;
     size_t slots = working[SLOTS];
-    if (!notes_length_ok(transient_words, slots) || transient[LAST_TAKEN] >= slots ||
-        transient[PLACE_SLOT] >= slots || transient[NEXT_UID] - 1 > LARGEST)
+    if (!notes_length_ok(transient_words, slots) || transient[NOTED_SLOTS] != slots ||
+        transient[LAST_TAKEN] >= slots || transient[PLACE_SLOT] >= slots || transient[NEXT_UID] - 1 > LARGEST)
         return BOARD_SIZES;
     uint32_t clock = working[CLOCK];
     if (!clock_ok(clock) || persistent[CLOCK] != clock)
@@ -91,7 +91,7 @@ static uint32_t enter(struct board *b, READ_STORE)
 
 static uint32_t *waiting(const struct board *b, uint32_t epoch) { return b->waiting + (epoch % 2) * b->slots; }
 
-uint32_t RULES(format)(STORE, uint32_t slots, uint32_t words)
+uint32_t BYHAND(format)(STORE, uint32_t slots, uint32_t words)
 {
     if (!sizes_ok(slots, words) || working_words != image_words(slots, words) || persistent_words != working_words ||
         !notes_length_ok(transient_words, slots))
@@ -102,12 +102,13 @@ uint32_t RULES(format)(STORE, uint32_t slots, uint32_t words)
     working[CLOCK] = 2;
     memcpy(persistent, working, working_words * sizeof *working);
     memset(transient, 0, transient_words * sizeof *transient);
+    transient[NOTED_SLOTS] = slots;
     transient[LAST_TAKEN] = slots - 1;
     transient[NEXT_UID] = 1;
     return 0;
 }
 
-uint32_t RULES(begin)(NOTES_STORE, uint32_t thread)
+uint32_t BYHAND(begin)(NOTES_STORE, uint32_t thread)
 {
     struct board b;
     uint32_t refusal = ENTER(b);
@@ -121,7 +122,7 @@ uint32_t RULES(begin)(NOTES_STORE, uint32_t thread)
     return 0;
 }
 
-uint32_t RULES(end)(NOTES_STORE, uint32_t thread)
+uint32_t BYHAND(end)(NOTES_STORE, uint32_t thread)
 {
     struct board b;
     uint32_t refusal = ENTER(b);
@@ -209,7 +210,7 @@ static void take(const struct board *b, size_t slot, uint32_t kind, uint32_t epo
     waiting(b, epoch)[slot] = 1;
 }
 
-uint32_t RULES(new)(CHANGE_STORE, uint32_t thread, uint32_t key, const uint32_t *value, size_t value_words)
+uint32_t BYHAND(new)(CHANGE_STORE, uint32_t thread, uint32_t key, const uint32_t *value, size_t value_words)
 {
     struct board b;
     uint32_t epoch;
@@ -231,7 +232,7 @@ uint32_t RULES(new)(CHANGE_STORE, uint32_t thread, uint32_t key, const uint32_t 
     return 0;
 }
 
-uint32_t RULES(set)(CHANGE_STORE, uint32_t thread, uint32_t key, const uint32_t *value, size_t value_words)
+uint32_t BYHAND(set)(CHANGE_STORE, uint32_t thread, uint32_t key, const uint32_t *value, size_t value_words)
 {
     struct board b;
     uint32_t epoch;
@@ -256,7 +257,7 @@ uint32_t RULES(set)(CHANGE_STORE, uint32_t thread, uint32_t key, const uint32_t 
     return 0;
 }
 
-uint32_t RULES(delete)(CHANGE_STORE, uint32_t thread, uint32_t key)
+uint32_t BYHAND(delete)(CHANGE_STORE, uint32_t thread, uint32_t key)
 {
     struct board b;
     uint32_t epoch;
@@ -286,7 +287,7 @@ uint32_t RULES(delete)(CHANGE_STORE, uint32_t thread, uint32_t key)
     return 0;
 }
 
-uint64_t RULES(read)(READ_STORE, uint32_t thread, uint32_t key)
+uint64_t BYHAND(read)(READ_STORE, uint32_t thread, uint32_t key)
 {
     struct board b;
     uint32_t refusal = ENTER(b);
@@ -380,7 +381,7 @@ static uint64_t step(const struct board *b)
     return 1;
 }
 
-uint64_t RULES(advance)(STORE)
+uint64_t BYHAND(advance)(STORE)
 {
     struct board b;
     uint32_t refusal = ENTER(b);
@@ -398,7 +399,7 @@ uint64_t RULES(advance)(STORE)
     return step(&b);
 }
 
-uint64_t RULES(sync)(STORE)
+uint64_t BYHAND(sync)(STORE)
 {
     struct board b;
     uint32_t refusal = ENTER(b);
@@ -411,11 +412,11 @@ uint64_t RULES(sync)(STORE)
         return BOARD_REFUSED + BOARD_LAST_EPOCH;
     uint64_t lines = 0;
     for (int ticks = 0; ticks < 2; lines++)
-        ticks += RULES(advance)(working, working_words, persistent, persistent_words, transient, transient_words) == 1;
+        ticks += BYHAND(advance)(working, working_words, persistent, persistent_words, transient, transient_words) == 1;
     return lines;
 }
 
-uint32_t RULES(write_back)(LINE_STORE, uint32_t slot, uint32_t line)
+uint32_t BYHAND(write_back)(LINE_STORE, uint32_t slot, uint32_t line)
 {
     struct board b;
     uint32_t refusal = ENTER(b);
@@ -480,7 +481,7 @@ static uint32_t judge(const uint32_t *image, size_t length, bool survives[MOST_S
     return twice ? BOARD_DUPLICATE : 0;
 }
 
-uint64_t RULES(recover)(STORE)
+uint64_t BYHAND(recover)(STORE)
 {
     bool survives[MOST_SLOTS];
     if (!image_ok(persistent, persistent_words) || working_words != persistent_words ||
@@ -510,12 +511,13 @@ uint64_t RULES(recover)(STORE)
     }
     memcpy(working, persistent, persistent_words * sizeof *working);
     memset(transient, 0, transient_words * sizeof *transient);
+    transient[NOTED_SLOTS] = (uint32_t)slots;
     transient[LAST_TAKEN] = (uint32_t)slots - 1;
     transient[NEXT_UID] = uid + 1;
     return BOARD_DONE;
 }
 
-uint64_t RULES(survivors)(const uint8_t *image, size_t bytes)
+uint64_t BYHAND(survivors)(const uint8_t *image, size_t bytes)
 {
     uint32_t words[MOST_IMAGE];
     bool survives[MOST_SLOTS];

@@ -1,11 +1,11 @@
-/* The calls of board.h once more, under another name: RULES(new) is rules_new unless the includer says otherwise. */
-#ifndef RULES_H
-#define RULES_H
+/* The calls of board.h once more, under another name: BYHAND(new) is byhand_new unless the includer says otherwise. */
+#ifndef BYHAND_H
+#define BYHAND_H
 
 #include "board.h"
 
-#ifndef RULES
-#define RULES(name) rules_##name
+#ifndef BYHAND
+#define BYHAND(name) byhand_##name
 #endif
 
 #define STORE uint32_t *working, size_t working_words, uint32_t *persistent, size_t persistent_words, \
@@ -19,18 +19,18 @@
 #define LINE_STORE const uint32_t *working, size_t working_words, uint32_t *persistent, size_t persistent_words, \
                    const uint32_t *transient, size_t transient_words
 
-uint32_t RULES(format)(STORE, uint32_t slots, uint32_t words);
-uint32_t RULES(begin)(NOTES_STORE, uint32_t thread);
-uint32_t RULES(end)(NOTES_STORE, uint32_t thread);
-uint32_t RULES(new)(CHANGE_STORE, uint32_t thread, uint32_t key, const uint32_t *value, size_t value_words);
-uint32_t RULES(set)(CHANGE_STORE, uint32_t thread, uint32_t key, const uint32_t *value, size_t value_words);
-uint32_t RULES(delete)(CHANGE_STORE, uint32_t thread, uint32_t key);
-uint64_t RULES(read)(READ_STORE, uint32_t thread, uint32_t key);
-uint64_t RULES(advance)(STORE);
-uint64_t RULES(sync)(STORE);
-uint32_t RULES(write_back)(LINE_STORE, uint32_t slot, uint32_t line);
-uint64_t RULES(recover)(STORE);
-uint64_t RULES(survivors)(const uint8_t *image, size_t bytes);
+uint32_t BYHAND(format)(STORE, uint32_t slots, uint32_t words);
+uint32_t BYHAND(begin)(NOTES_STORE, uint32_t thread);
+uint32_t BYHAND(end)(NOTES_STORE, uint32_t thread);
+uint32_t BYHAND(new)(CHANGE_STORE, uint32_t thread, uint32_t key, const uint32_t *value, size_t value_words);
+uint32_t BYHAND(set)(CHANGE_STORE, uint32_t thread, uint32_t key, const uint32_t *value, size_t value_words);
+uint32_t BYHAND(delete)(CHANGE_STORE, uint32_t thread, uint32_t key);
+uint64_t BYHAND(read)(READ_STORE, uint32_t thread, uint32_t key);
+uint64_t BYHAND(advance)(STORE);
+uint64_t BYHAND(sync)(STORE);
+uint32_t BYHAND(write_back)(LINE_STORE, uint32_t slot, uint32_t line);
+uint64_t BYHAND(recover)(STORE);
+uint64_t BYHAND(survivors)(const uint8_t *image, size_t bytes);
 
 /* All calls of one version of the rules, so that a program can run on either. */
 struct calls {

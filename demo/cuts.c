@@ -1,0 +1,153 @@
+/* The power fails after a store. The lasting image is all that is left; recovery makes a board of it again, and the
+   desk's log says what that board has to hold. */
+
+#include "cuts.h"
+
+#include <inttypes.h>
+#include <stdio.h>
+#include <stdlib.h>
+#include <string.h>
+
+bool same_job(const struct job *a, const struct job *b)
+{
+    return a->open == b->open && (!a->open || memcmp(a->value, b->value, sizeof a->value) == 0);
+}
+
+/* The jobs as a board shows them, read one by one, and how many are open. */
+static uint32_t read_jobs(const struct calls *calls, STORE, uint32_t count, struct job *jobs)
+{
+    uint32_t open = 0;
+    memset(jobs, 0, MOST_JOBS * sizeof *jobs);
+    for (uint32_t i = 0; i < count; i++) {
+        uint64_t at = calls->read(working, working_words, persistent, persistent_words, transient, transient_words, 1,
+                                  FIRST_KEY + i);
+        if (at >= BOARD_REFUSED)
+            continue;
+        jobs[i].open = true;
+        memcpy(jobs[i].value, working + at, sizeof jobs[i].value);
+        open++;
+    }
+    return open;
+}
+
+void before_cut(const struct desk *d, struct outcome *o)
+{
+    o->open_before = read_jobs(d->calls, STORE_OF(d), d->jobs, o->before);
+}
+
+/* What is lost, and what is not as the log has it. */
+static void hold_against_log(const struct desk *d, struct outcome *o)
+{
+    replay(d, o->clock - 2, o->due);
+    o->lost = o->wrong = o->returned = o->closed = 0;
+    for (const struct change *change = d->log; change < d->log + d->changes; change++) {
+        o->lost += change->epoch > o->clock - 2;
+        o->closed += change->epoch <= o->clock - 2 && change->kind == CLOSED;
+    }
+    for (uint32_t i = 0; i < d->jobs; i++) {
+        o->wrong += !same_job(&o->after[i], &o->due[i]);
+        o->returned += o->after[i].open && !o->due[i].open;
+    }
+}
+
+void recover(const struct desk *d, struct outcome *o)
+{
+    uint32_t *working = block(d->image * 4), *persistent = block(d->image * 4), *transient = block(d->notes * 4);
+    memcpy(persistent, d->persistent, d->image * 4);
+    memset(working, 0xA5, d->image * 4);
+    memset(transient, 0xA5, d->notes * 4);
+    o->clock = persistent[CLOCK];
+    uint64_t answer;
+    o->calls = 0;
+    do {
+        answer = board_recover(working, d->image, persistent, d->image, transient, d->notes);
+        o->calls++;
+    } while (answer == BOARD_WENT_ON);
+    if (answer != BOARD_DONE)
+        stop("recover", answer);
+    read_jobs(&library, working, d->image, persistent, d->image, transient, d->notes, d->jobs, o->after);
+    free(working);
+    free(persistent);
+    free(transient);
+    hold_against_log(d, o);
+}
+
+uint64_t stores_of(day *play, uint32_t size, uint32_t slots, uint64_t seed, uint64_t *busy_from)
+{
+    struct desk d;
+    open_desk(&d, &library, slots, seed, 0);
+    play(&d, size);
+    uint64_t stores = d.stores;
+    *busy_from = d.busy_from;
+    close_desk(&d);
+    return stores;
+}
+
+/* ---- The worst cut of the broken rule ---- */
+
+static void keep_worst(struct desk *d)
+{
+    struct worst *worst = d->told;
+    if (d->stores < d->cut)
+        return;
+    d->cut = d->stores + 1;
+    if (worst->o.returned > 0 && d->persistent[CLOCK] != worst->o.clock) {
+        d->dark = true;
+        return;
+    }
+    recover(d, &worst->tried);
+    if (worst->tried.returned > worst->o.returned) {
+        worst->o = worst->tried;
+        worst->store = d->stores;
+        worst->minute = d->minute;
+    }
+}
+
+void find_worst(struct desk *d, struct worst *worst, uint32_t stops, uint64_t seed, uint64_t cut)
+{
+    for (uint64_t from = cut;; from = 1) {
+        open_desk(d, &early, slots_for(stops / 3), seed, from);
+        d->after_store = keep_worst;
+        d->told = worst;
+        second_day(d, stops);
+        if (worst->o.returned > 0 || from == 1)
+            return;
+        close_desk(d);
+    }
+}
+
+/* ---- Every cut of a day ---- */
+
+static void count_cut(struct desk *d)
+{
+    struct tally *t = d->told;
+    recover(d, &t->o);
+    t->cuts++;
+    t->recovered += t->o.calls;
+    t->wrong_cuts += t->o.wrong > 0;
+    t->returned_cuts += t->o.returned > 0;
+    if (t->o.lost > t->most_lost)
+        t->most_lost = t->o.lost;
+    if (t->o.returned > t->most_returned)
+        t->most_returned = t->o.returned;
+    if (time(NULL) >= t->said + 5) {
+        t->said = time(NULL);
+        fprintf(stderr, "  ... %" PRIu64 " of about %" PRIu64 " cuts\n", t->cuts, t->all);
+    }
+}
+
+const struct tally *count_day(day *play, const struct calls *calls, uint32_t size, uint32_t slots, uint64_t seed)
+{
+    static struct tally t;
+    struct desk d;
+    memset(&t, 0, sizeof t);
+    t.said = time(NULL);
+    uint64_t from;
+    t.all = stores_of(play, size, slots, seed, &from);
+    open_desk(&d, calls, slots, seed, 0);
+    d.after_store = count_cut;
+    d.told = &t;
+    play(&d, size);
+    close_desk(&d);
+    return &t;
+}

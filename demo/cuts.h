@@ -1,0 +1,52 @@
+/* Power cuts: what the library's recovery makes of the lasting image alone, held against the desk's log. */
+#ifndef CUTS_H
+#define CUTS_H
+
+#include "desk.h"
+
+#include <time.h>
+
+/* The jobs before the cut, after recovery, and as they are due by the log. */
+struct outcome {
+    struct job before[MOST_JOBS], after[MOST_JOBS], due[MOST_JOBS];
+    uint32_t clock, calls, open_before;
+    uint32_t lost;     /* changes of the last two epochs */
+    uint32_t wrong;    /* jobs that are not as every older change left them */
+    uint32_t returned; /* of these: closed for good, and open again */
+    uint32_t closed;   /* jobs closed for good */
+};
+
+bool same_job(const struct job *a, const struct job *b);
+
+/* The jobs as the desk's board shows them now. */
+void before_cut(const struct desk *d, struct outcome *o);
+
+/* The power is cut now: of a copy of the lasting image alone, the library's recovery makes a board. */
+void recover(const struct desk *d, struct outcome *o);
+
+/* How many stores a day makes without a cut, and the first once the board is as full as it gets. */
+uint64_t stores_of(day *play, uint32_t size, uint32_t slots, uint64_t seed, uint64_t *busy_from);
+
+/* The store at which most delivered jobs would come back, within the first clock after the cut at which any would. */
+struct worst {
+    struct outcome o, tried;
+    uint64_t store;
+    int minute;
+};
+
+/* Plays the second day with the broken rule and tries the stores from this cut on, or all where none of these brings
+   a job back. The desk is left open. */
+void find_worst(struct desk *d, struct worst *worst, uint32_t stops, uint64_t seed, uint64_t cut);
+
+/* What every cut of a day came to. */
+struct tally {
+    struct outcome o;
+    uint64_t cuts, all, recovered, wrong_cuts, returned_cuts;
+    uint32_t most_lost, most_returned;
+    time_t said;
+};
+
+/* Plays a day and recovers after every single store of it. The tally is good until the next call. */
+const struct tally *count_day(day *play, const struct calls *calls, uint32_t size, uint32_t slots, uint64_t seed);
+
+#endif

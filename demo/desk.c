@@ -1,0 +1,247 @@
+/* The desk's day: jobs are opened, moved and closed, an advance goes on in between, and the memory writes lines back. */
+
+#include "desk.h"
+
+#include <stdio.h>
+#include <stdlib.h>
+#include <string.h>
+
+enum { MINUTES_OF_EPOCH = 5 };
+
+const struct calls library = CALLS(board);
+
+void stop(const char *what, uint64_t answer)
+{
+    fprintf(stderr, "demo: %s: %s\n", what, board_refusal_text(answer));
+    exit(2);
+}
+
+void *block(size_t bytes)
+{
+    void *start = malloc(bytes);
+    if (start == NULL) {
+        fprintf(stderr, "demo: no memory\n");
+        exit(2);
+    }
+    return start;
+}
+
+uint32_t below(uint64_t *random, uint32_t bound)
+{
+    *random = *random * UINT64_C(6364136223846793005) + UINT64_C(1442695040888963407);
+    return (uint32_t)((*random >> 33) % bound);
+}
+
+void open_desk(struct desk *d, const struct calls *calls, uint32_t slots, uint64_t seed, uint64_t cut)
+{
+    memset(d, 0, sizeof *d);
+    d->calls = calls;
+    d->slots = slots;
+    d->image = board_image_words(slots, WORDS);
+    d->notes = board_transient_words(slots, THREADS);
+    if (d->image == 0 || d->notes == 0)
+        stop("a board of this size", BOARD_SIZES);
+    d->working = block(d->image * sizeof(uint32_t));
+    d->persistent = block(d->image * sizeof(uint32_t));
+    d->transient = block(d->notes * sizeof(uint32_t));
+    d->random = seed;
+    d->cut = cut;
+    uint32_t refusal = calls->format(STORE_OF(d), slots, WORDS);
+    if (refusal != 0)
+        stop("format", refusal);
+}
+
+void close_desk(struct desk *d)
+{
+    free(d->working);
+    free(d->persistent);
+    free(d->transient);
+    free(d->log);
+}
+
+static void stored(struct desk *d)
+{
+    d->stores++;
+    if (d->after_store != NULL)
+        d->after_store(d);
+    if (d->stores == d->cut)
+        d->dark = true;
+}
+
+/* So many lines of an advance, or to its end. */
+static void advance(struct desk *d, int lines)
+{
+    while (!d->dark && lines-- != 0) {
+        uint64_t answer = d->calls->advance(STORE_OF(d));
+        if (answer >= BOARD_REFUSED)
+            stop("advance", answer);
+        stored(d);
+        if (answer == BOARD_TICKED)
+            return;
+    }
+}
+
+/* The memory writes a line back by itself. */
+static void write_back(struct desk *d)
+{
+    if (d->dark)
+        return;
+    uint32_t slot = below(&d->random, d->slots), line = below(&d->random, 2);
+    uint32_t refusal = d->calls->write_back(STORE_OF(d), slot, line);
+    if (refusal != 0)
+        stop("write-back", refusal);
+    stored(d);
+}
+
+static void note(struct desk *d, int kind, uint32_t key, const uint32_t *value)
+{
+    if (d->changes == d->most_changes) {
+        d->most_changes = 2 * d->most_changes + 64;
+        d->log = realloc(d->log, d->most_changes * sizeof *d->log);
+        if (d->log == NULL)
+            stop("no memory for the log", BOARD_FULL);
+    }
+    struct change *change = &d->log[d->changes++];
+    *change = (struct change){.kind = kind, .key = key, .epoch = d->working[CLOCK], .minute = d->minute};
+    if (value != NULL)
+        memcpy(change->value, value, sizeof change->value);
+}
+
+static void open_job(struct desk *d)
+{
+    uint32_t key = FIRST_KEY + d->jobs++;
+    uint32_t value[VALUE_WORDS] = {1 + below(&d->random, 12), 1 + below(&d->random, 899),
+                                   (uint32_t)d->minute + 30 + below(&d->random, 90)};
+    uint32_t refusal = d->calls->new(STORE_OF(d), 0, key, value, VALUE_WORDS);
+    if (refusal != 0)
+        stop("new", refusal);
+    note(d, OPENED, key, value);
+}
+
+/* A courier reports: another courier takes the job over, or it is due at another time. */
+static void move_job(struct desk *d, uint32_t key)
+{
+    uint64_t at = d->calls->read(STORE_OF(d), 0, key);
+    if (at >= BOARD_REFUSED)
+        stop("read", at);
+    uint32_t value[VALUE_WORDS];
+    memcpy(value, d->working + at, sizeof value);
+    if (below(&d->random, 2) == 0)
+        value[COURIER] = 1 + below(&d->random, 12);
+    value[DUE] += 1 + below(&d->random, 20);
+    uint32_t refusal = d->calls->set(STORE_OF(d), 0, key, value, VALUE_WORDS);
+    if (refusal != 0)
+        stop("set", refusal);
+    note(d, MOVED, key, value);
+}
+
+static void close_job(struct desk *d, uint32_t key)
+{
+    uint32_t refusal = d->calls->delete(STORE_OF(d), 0, key);
+    if (refusal != 0)
+        stop("delete", refusal);
+    note(d, CLOSED, key, NULL);
+}
+
+static void begin(struct desk *d)
+{
+    uint32_t refusal = d->calls->begin(STORE_OF(d), 0);
+    if (refusal != 0)
+        stop("begin", refusal);
+}
+
+/* The operation ends, a minute passes. An advance is begun in the middle of each five minutes and ends with them. */
+static void end(struct desk *d)
+{
+    uint32_t refusal = d->calls->end(STORE_OF(d), 0);
+    if (refusal != 0)
+        stop("end", refusal);
+    if (below(&d->random, 3) == 0)
+        write_back(d);
+    if (d->minute % MINUTES_OF_EPOCH == 2)
+        advance(d, 8);
+    if (d->minute % MINUTES_OF_EPOCH == MINUTES_OF_EPOCH - 1)
+        advance(d, -1);
+    d->minute++;
+}
+
+void replay(const struct desk *d, uint32_t epoch, struct job *jobs)
+{
+    memset(jobs, 0, MOST_JOBS * sizeof *jobs);
+    for (const struct change *change = d->log; change < d->log + d->changes; change++) {
+        if (change->epoch > epoch)
+            continue;
+        struct job *job = &jobs[change->key - FIRST_KEY];
+        job->open = change->kind != CLOSED;
+        if (job->open)
+            memcpy(job->value, change->value, sizeof job->value);
+    }
+}
+
+/* An open job; which one is left to chance. */
+static uint32_t some_job(struct desk *d, bool oldest)
+{
+    static struct job jobs[MOST_JOBS];
+    replay(d, UINT32_MAX, jobs);
+    uint32_t at = oldest ? 0 : below(&d->random, d->jobs);
+    while (!jobs[at].open)
+        at = (at + 1) % d->jobs;
+    return FIRST_KEY + at;
+}
+
+/* Jobs are opened until so many are open; then they are moved, cancelled and replaced. */
+void first_day(struct desk *d, uint32_t jobs)
+{
+    while (!d->dark && d->jobs < jobs) {
+        begin(d);
+        for (int i = 0; i < 3 && d->jobs < jobs; i++)
+            open_job(d);
+        end(d);
+    }
+    d->busy_from = d->stores + 1;
+    for (uint32_t minutes = jobs * 2 / 3; !d->dark && minutes > 0; minutes--) {
+        begin(d);
+        move_job(d, some_job(d, false));
+        if (below(&d->random, 3) == 0) {
+            close_job(d, some_job(d, false));
+            open_job(d);
+        } else {
+            move_job(d, some_job(d, false));
+        }
+        end(d);
+    }
+    advance(d, -1);
+}
+
+/* A third of the stops is known in the morning; with each delivery a new stop comes in, until all are known. */
+void second_day(struct desk *d, uint32_t stops)
+{
+    while (!d->dark && d->jobs < stops / 3) {
+        begin(d);
+        for (int i = 0; i < 4 && d->jobs < stops / 3; i++)
+            open_job(d);
+        end(d);
+    }
+    d->busy_from = d->stores + 1;
+    for (uint32_t delivered = 0; !d->dark && delivered + 1 < stops; delivered++) {
+        begin(d);
+        close_job(d, some_job(d, below(&d->random, 2) == 0));
+        if (d->jobs < stops)
+            open_job(d);
+        if (below(&d->random, 2) == 0)
+            move_job(d, some_job(d, false));
+        end(d);
+    }
+    advance(d, -1);
+}
+
+uint32_t slots_for(uint32_t open) { return open + 64; }
+
+const struct change *last_change(const struct desk *d, uint32_t key)
+{
+    const struct change *change = d->log + d->changes;
+    while (change > d->log)
+        if ((--change)->key == key)
+            return change;
+    return NULL;
+}

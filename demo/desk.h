@@ -1,0 +1,72 @@
+/* The dispatch desk: a board, a log of every change made to it, and two days of work. */
+#ifndef DESK_H
+#define DESK_H
+
+#include "../bench/byhand.h"
+
+#include <stdbool.h>
+
+enum { WORDS = 4, VALUE_WORDS = WORDS - 1, THREADS = 2, FIRST_KEY = 1001, MOST_JOBS = 8192, CLOCK = 2 };
+enum { COURIER, ADDRESS, DUE }; /* the words of a value */
+
+/* The library, and the rules by hand in C with one of them broken (early.c). */
+extern const struct calls library, early;
+
+/* One change, as the desk's log has it. */
+struct change {
+    enum { OPENED, MOVED, CLOSED } kind;
+    uint32_t key, value[VALUE_WORDS], epoch;
+    int minute;
+};
+
+/* What the desk knows of a job: open or not, and its value. Jobs are numbered in the order they came in. */
+struct job {
+    bool open;
+    uint32_t value[VALUE_WORDS];
+};
+
+struct desk {
+    const struct calls *calls;
+    uint32_t slots;
+    size_t image, notes; /* lengths in words */
+    uint32_t *working, *persistent, *transient;
+    struct change *log;
+    size_t changes, most_changes;
+    uint32_t jobs; /* how many were ever opened */
+    uint64_t random;
+    int minute;
+    uint64_t stores, cut; /* made so far; the one after which the power fails, 0 for never */
+    uint64_t busy_from;   /* the first store once the board is as full as it gets */
+    bool dark;
+    void (*after_store)(struct desk *);
+    void *told;
+};
+
+#define STORE_OF(d) (d)->working, (d)->image, (d)->persistent, (d)->image, (d)->transient, (d)->notes
+
+/* Ends the program: no call of the demonstration should decline. */
+void stop(const char *what, uint64_t answer);
+
+void *block(size_t bytes);
+
+/* The next number below the bound. */
+uint32_t below(uint64_t *random, uint32_t bound);
+
+void open_desk(struct desk *d, const struct calls *calls, uint32_t slots, uint64_t seed, uint64_t cut);
+void close_desk(struct desk *d);
+
+/* A day of so many jobs or stops. */
+typedef void day(struct desk *d, uint32_t size);
+void first_day(struct desk *d, uint32_t jobs);
+void second_day(struct desk *d, uint32_t stops);
+
+/* The slots for so many jobs open at once: room for the versions and anti-payloads of a few epochs besides. */
+uint32_t slots_for(uint32_t open);
+
+/* The jobs as the log up to an epoch has them. */
+void replay(const struct desk *d, uint32_t epoch, struct job *jobs);
+
+/* The last change of a job in the log, or NULL. */
+const struct change *last_change(const struct desk *d, uint32_t key);
+
+#endif

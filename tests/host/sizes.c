@@ -1,0 +1,116 @@
+/* A store handed the notes of other sizes, through the header. They are just as long: with 3 slots and 4 threads as with
+   4 slots and 1 thread. Every call but format and recover declines and changes nothing.
+   Usage: sizes */
+
+#include "board.h"
+#include "checks.h"
+
+#include <stdbool.h>
+
+enum { WORDS = 3, VALUE_WORDS = WORDS - 1, KEY = 7 };
+
+struct store {
+    uint32_t slots, threads;
+    size_t image, notes;
+    uint32_t *working, *persistent, *transient;
+};
+
+#define STORE(s) (s)->working, (s)->image, (s)->persistent, (s)->image, (s)->transient, (s)->notes
+
+static const uint32_t value[VALUE_WORDS] = {41, 42};
+
+static struct store new_store(uint32_t slots, uint32_t threads)
+{
+    struct store s = {.slots = slots, .threads = threads, .image = board_image_words(slots, WORDS),
+                      .notes = board_transient_words(slots, threads)};
+    s.working = block(s.image);
+    s.persistent = block(s.image);
+    s.transient = block(s.notes);
+    same("format", board_format(STORE(&s), slots, WORDS), 0);
+    return s;
+}
+
+static void free_store(struct store *s)
+{
+    free(s->working);
+    free(s->persistent);
+    free(s->transient);
+}
+
+static void copy_store(struct store *to, const struct store *from)
+{
+    memcpy(to->working, from->working, from->image * sizeof *to->working);
+    memcpy(to->persistent, from->persistent, from->image * sizeof *to->persistent);
+    memcpy(to->transient, from->transient, from->notes * sizeof *to->transient);
+}
+
+static bool same_store(const struct store *a, const struct store *b)
+{
+    return memcmp(a->working, b->working, a->image * sizeof *a->working) == 0 &&
+           memcmp(a->persistent, b->persistent, a->image * sizeof *a->persistent) == 0 &&
+           memcmp(a->transient, b->transient, a->notes * sizeof *a->transient) == 0;
+}
+
+/* Each call on the store as it was. */
+static void each_declines(struct store *s, const struct store *before)
+{
+    const uint64_t wide = BOARD_REFUSED + BOARD_SIZES;
+#define DECLINES(call, wanted)                                       \
+    do {                                                             \
+        same(#call, call, wanted);                                   \
+        same(#call " changes nothing", same_store(s, before), true); \
+        copy_store(s, before);                                       \
+    } while (0)
+    DECLINES(board_begin(STORE(s), 0), BOARD_SIZES);
+    DECLINES(board_end(STORE(s), 0), BOARD_SIZES);
+    DECLINES(board_new(STORE(s), 0, KEY + 1, value, VALUE_WORDS), BOARD_SIZES);
+    DECLINES(board_set(STORE(s), 0, KEY, value, VALUE_WORDS), BOARD_SIZES);
+    DECLINES(board_delete(STORE(s), 0, KEY), BOARD_SIZES);
+    DECLINES(board_read(STORE(s), 0, KEY), wide);
+    DECLINES(board_read_refusal(STORE(s), 0, KEY), BOARD_SIZES);
+    DECLINES(board_advance(STORE(s)), wide);
+    DECLINES(board_sync(STORE(s)), wide);
+    DECLINES(board_write_back(STORE(s), 0, 0), BOARD_SIZES);
+#undef DECLINES
+}
+
+static void first_job(struct store *s)
+{
+    same("begin", board_begin(STORE(s), 0), 0);
+    same("new", board_new(STORE(s), 0, KEY, value, VALUE_WORDS), 0);
+}
+
+/* The notes are those of the other store as format left them or, where it is used, as its first job did. */
+static void with_notes_of(uint32_t slots, uint32_t threads, uint32_t other_slots, uint32_t other_threads, bool used)
+{
+    struct store s = new_store(slots, threads), other = new_store(other_slots, other_threads);
+    struct store before = new_store(slots, threads);
+    first_job(&s);
+    if (used) {
+        first_job(&other);
+        same("end", board_end(STORE(&other), 0), 0);
+    }
+    same("the length of the other notes", other.notes, s.notes);
+    memcpy(s.transient, other.transient, s.notes * sizeof *s.transient);
+    copy_store(&before, &s);
+    each_declines(&s, &before);
+
+    same("recover", board_recover(STORE(&s)), BOARD_DONE);
+    same("begin after it", board_begin(STORE(&s), 0), 0);
+    copy_store(&s, &before);
+    same("format once more", board_format(STORE(&s), slots, WORDS), 0);
+    same("begin after that", board_begin(STORE(&s), 0), 0);
+    free_store(&s);
+    free_store(&other);
+    free_store(&before);
+}
+
+int main(void)
+{
+    for (int used = 0; used < 2; used++) {
+        with_notes_of(3, 4, 4, 1, used);
+        with_notes_of(4, 1, 3, 4, used);
+    }
+    printf("%zu answers, %zu wrong\n", calls, failed);
+    return failed > 0;
+}
