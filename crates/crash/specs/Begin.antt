@@ -2,12 +2,13 @@
 use Prim.Native.Nat.{ℕ, _+_, _≤_}
 use mathlib.Core.Path.{_≡_, refl}
 use mathlib.Core.Logic.{Iff·trans}
-use mathlib.Core.List.{[], List·Memᴰ·not-nil}
+use mathlib.Core.List.{List·Memᴰ·not-nil}
 use native.Mathlib.Omega.{arith}
-use Rattle.crash.specs.Reference.{Name, Value, Jobs, jobsAt}
+use Rattle.image.specs.Name.{Name}
+use Rattle.crash.specs.Reference.{Value, Jobs, jobsAt}
 use Rattle.crash.specs.Slots.{State, Visible, Shows, One, Inv}
 use Rattle.crash.specs.Steps.{Start}
-use Rattle.crash.specs.Kin.{slotty, same-proper, old-waits, rest-underway}
+use Rattle.crash.specs.OneSlot.{slotty, same-proper, old-waits, rest-underway}
 
 -- with no change the jobs are those of the start
 no-change : (e : ℕ) (start : Jobs) → jobsAt e start [] ≡ start

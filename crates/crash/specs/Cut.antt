@@ -5,13 +5,15 @@ use mathlib.Core.Logic.{_≢_, _⊎_, inl, inr, _↔_, Iff·trans}
 use mathlib.Core.Option.{some}
 use native.Mathlib.Omega.{arith}
 use native.Mathlib.Decide.{ℕ-discrete, decLe}
-use Rattle.crash.specs.Reference.{Name, no-name, Value, jobsAt}
+use Rattle.image.specs.Name.{Name, Named}
+use Rattle.crash.specs.Reference.{Value, jobsAt}
 use Rattle.crash.specs.Slots.{Slot, State, SameHead, SameLine, Live, Visible, Shows, Kin, Inv}
 use Rattle.crash.specs.Steps.{Kept, Survives}
-use Rattle.crash.specs.Kin.{slotty, kin-cases}
+use Rattle.crash.specs.OneSlot.{slotty}
+use Rattle.crash.specs.Versions.{kin-cases}
 
 -- a slot that survives shows the job k with the value v
-pub record Holds (e : ℕ) (f : ℕ → Slot) (k : Name) (v : Value) : Type 0 where
+pub record CutShows (e : ℕ) (f : ℕ → Slot) (k : Name) (v : Value) : Type 0 where
   pub at : ℕ
   pub survives : Survives e f at
   pub name-is : f at .persistent .name ≡ k
@@ -98,11 +100,11 @@ module _ {st : State} (i : Inv st) {e : ℕ} (c : e + 2 ≡ st .clock) where
       i .two m n d .disjoint e (cut-survives m .0 p) (cut-survives n .0 q) (sym (cut-line m p .name-is) ∙ k ∙ cut-line n q .name-is)
 
   -- a survivor has a name
-  pub cut-named : (s : ℕ) → Survives e (st .slots) s → st .slots s .persistent .name ≢ no-name
+  pub cut-named : (s : ℕ) → Survives e (st .slots) s → Named (st .slots s .persistent .name)
   cut-named s h k = i .one s .named (working s (h .kept) .filled) (sym (cut-line s h .name-is) ∙ k)
 
   -- the survivors' names and values are what is shown at e
-  holds : (k : Name) (v : Value) → Holds e (st .slots) k v ↔ Shows (st .slots) e k v
+  holds : (k : Name) (v : Value) → CutShows e (st .slots) k v ↔ Shows (st .slots) e k v
   holds k v = (
     λ a. let q = cut-line (a .at) (a .survives) in
         let w = cut-survives (a .at) .0 (a .survives) in
@@ -113,5 +115,5 @@ module _ {st : State} (i : Inv st) {e : ℕ} (c : e + 2 ≡ st .clock) where
   )
 
   -- .. and those of the reference map at e
-  pub cut-jobs : (k : Name) (v : Value) → Holds e (st .slots) k v ↔ (jobsAt e (st .start) (st .row) k ≡ some v)
+  pub cut-jobs : (k : Name) (v : Value) → CutShows e (st .slots) k v ↔ (jobsAt e (st .start) (st .row) k ≡ some v)
   cut-jobs k v = Iff·trans (holds k v) (i .shown e (omega arith) (omega arith) k v)

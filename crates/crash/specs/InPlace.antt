@@ -3,10 +3,11 @@ use Prim.Native.Nat.{ℕ, _≤_, _<_}
 use mathlib.Core.Path.{refl}
 use mathlib.Core.Logic.{_≢_}
 use native.Mathlib.Omega.{arith}
-use Rattle.crash.specs.Reference.{Value, Act, changed}
+use Rattle.crash.specs.Reference.{Value, Act, altered}
 use Rattle.crash.specs.Slots.{Entry, Slot, State, Proper, Inv}
 use Rattle.crash.specs.Steps.{entry, rewritten, after, revalued, InPlace}
-use Rattle.crash.specs.Tools.{current-newest, current-lone, Own, Tells, tells-value, Newer, Heir, Write, write-inv}
+use Rattle.crash.specs.Versions.{current-newest, current-lone}
+use Rattle.crash.specs.Write.{Own, Tells, tells-value, Newer, Heir, Write, write-inv}
 
 -- ---- the entry x takes the place of the version
 module _ {x : Entry} {e r now before : ℕ} {st : State} {g : ℕ → Slot} (i : Inv st) (t : InPlace x e r now before st g) where
@@ -51,5 +52,5 @@ module _ {kind : ℕ} {w : Value} {e r now before : ℕ} {st : State} {g : ℕ �
       (λ m h l a. search arith)
 
 pub set-inv : {v : Value} {e r now before : ℕ} {st : State} {g : ℕ → Slot} → Inv st → InPlace (revalued v (st .slots r .working)) e r now before st g
-    → Inv (after st g (st .uid) e changed (st .slots r .working .name) v)
+    → Inv (after st g (st .uid) e altered (st .slots r .working .name) v)
 set-inv i t = kept-uid-inv i t (omega arith) (omega arith) (tells-value (t .of .payload) refl refl)

@@ -7,14 +7,11 @@ use mathlib.Core.Option.{some}
 use mathlib.Core.Bool.{cond}
 use lib.Dec.{leb}
 use native.Mathlib.Omega.{arith}
-use native.Mathlib.Decide.{ℕ-discrete, decLe}
-use borrow.Author.Tests.{le-leb, lt-leb, eq-eqb, ne-eqb}
-use Rattle.crash.specs.Reference.{Name, Value, Jobs, Change, leaves, applied, played, jobsAt}
+use native.Mathlib.Decide.{decLe}
+use borrow.Author.Tests.{le-leb, lt-leb}
+use Rattle.image.specs.Name.{Name, name-same, name-other, name-dec}
+use Rattle.crash.specs.Reference.{Value, Jobs, Change, leaves, applied, played, jobsAt}
 use Rattle.crash.specs.Slots.{UpTo}
-
--- names are compared by this alone
-pub name-dec : Discrete Name
-name-dec = ℕ-discrete
 
 -- the last entry is played last
 played-snoc : (e : ℕ) (jobs : Jobs) (row : List Change) (ch : Change)
@@ -36,11 +33,11 @@ module _ (e : ℕ) (start : Jobs) (row : List Change) (ch : Change) (k : Name) w
   -- the last entry is of a later epoch, or of another name
   pub jobs-other : (e < ch .epoch) ⊎ (k ≢ ch .name) → jobsAt e start (row ++ (ch ∷ [])) k ≡ jobsAt e start row k
   jobs-other (inl h) = jobs-late h
-  jobs-other (inr h) = elim (decLe (ch .epoch) e) [ yes a ↦ jobs-due a ∙ rw (ne-eqb k (ch .name) h) refl | no a ↦ jobs-late (omega arith) ]
+  jobs-other (inr h) = elim (decLe (ch .epoch) e) [ yes a ↦ jobs-due a ∙ rw (name-other k (ch .name) h) refl | no a ↦ jobs-late (omega arith) ]
 
   -- it is of this name and due
   pub jobs-hit : ch .epoch ≤ e → k ≡ ch .name → jobsAt e start (row ++ (ch ∷ [])) k ≡ leaves (ch .act) (ch .value)
-  jobs-hit h q = jobs-due h ∙ rw (eq-eqb k (ch .name) q) refl
+  jobs-hit h q = jobs-due h ∙ rw (name-same k (ch .name) q) refl
 
 -- where every change is due, a later epoch plays the same
 played-agree : (d e : ℕ) (jobs : Jobs) (row : List Change) → d ≤ e → UpTo d row → played e jobs row ≡ played d jobs row

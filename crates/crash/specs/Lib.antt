@@ -3,8 +3,10 @@ pub mod Reference
 pub mod Slots
 pub mod Steps
 pub mod Laws
-pub mod Kin
-pub mod Tools
+pub mod OneSlot
+pub mod Dressed
+pub mod Versions
+pub mod Write
 pub mod New
 pub mod Over
 pub mod InPlace

@@ -6,7 +6,8 @@ use native.Mathlib.Omega.{arith}
 use Rattle.crash.specs.Table.{Put, every-put}
 use Rattle.crash.specs.Slots.{Entry, Slot, State, SameHead, SameLine, Waits, One, Underway, Inv}
 use Rattle.crash.specs.Steps.{stored, moved, Head, Line}
-use Rattle.crash.specs.Kin.{same-proper, Dressed, dressed-two, dressed-next, dressed-shows}
+use Rattle.crash.specs.OneSlot.{same-proper}
+use Rattle.crash.specs.Dressed.{Dressed, dressed-two, dressed-next, dressed-shows}
 
 module _ {x w p : Entry} where
   -- a header of the one or the other is the one's, where these two agree

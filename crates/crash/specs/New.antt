@@ -2,11 +2,13 @@
 use Prim.Native.Nat.{ℕ, suc, _≤_}
 use mathlib.Core.Path.{_≡_, refl, _∙_}
 use native.Mathlib.Omega.{arith}
-use Rattle.crash.specs.Reference.{Name, Value, made}
+use Rattle.image.specs.Name.{Name}
+use Rattle.crash.specs.Reference.{Value, made}
 use Rattle.crash.specs.Slots.{Slot, State, Payload, Inv}
 use Rattle.crash.specs.Steps.{entry, filled, after, New}
-use Rattle.crash.specs.Kin.{slotty}
-use Rattle.crash.specs.Tools.{uid-name, Write, Behind, tells-value, write-inv}
+use Rattle.crash.specs.OneSlot.{slotty}
+use Rattle.crash.specs.Versions.{uid-name}
+use Rattle.crash.specs.Write.{Write, Behind, tells-value, write-inv}
 
 module _ {e s : ℕ} {k : Name} {v : Value} {now before : ℕ} {st : State} {g : ℕ → Slot} (i : Inv st) (t : New e s k v now before st g) where
   -- a payload of the name gave way to a version that is not later than e

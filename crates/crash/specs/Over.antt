@@ -4,23 +4,24 @@ use mathlib.Core.Path.{_≡_, refl, sym}
 use mathlib.Core.Logic.{_≢_, _⊎_, inl, inr, _↔_}
 use mathlib.Core.Option.{some}
 use native.Mathlib.Omega.{arith}
+use Rattle.image.specs.Name.{Name}
 use Rattle.crash.specs.Table.{Any, every-put2, pairwise-put2, any-first, any-second, any-keep2, any-case2}
-use Rattle.crash.specs.Reference.{Name, Value, Act, leaves}
+use Rattle.crash.specs.Reference.{Value, Act, leaves}
 use Rattle.crash.specs.Laws.{late-snoc, shown-step}
 use Rattle.crash.specs.Slots.{Entry, Slot, State, Visible, Sees, Shows, One, Underway, Two, Next, Inv}
-use Rattle.crash.specs.Steps.{entry, filled, retiring, after, Outcome, updates, removes, Over}
-use Rattle.crash.specs.Kin.{slotty}
-use Rattle.crash.specs.Tools.{current-newest, current-lone, own-unseen, Tells, tells-value, tells-nothing}
-use Rattle.crash.specs.Tools.{Write, Behind, write-one, write-underway, write-tells, write-two}
+use Rattle.crash.specs.Steps.{entry, filled, retiring, after, Successor, updates, removes, Over}
+use Rattle.crash.specs.OneSlot.{slotty}
+use Rattle.crash.specs.Versions.{current-newest, current-lone}
+use Rattle.crash.specs.Write.{own-unseen, Tells, tells-value, tells-nothing, Write, Behind, write-one, write-underway, write-tells, write-two}
 
 -- the kind and what is left, of a set and of a delete
-outcome-kind : {kind : ℕ} {act : Act} {v u : Value} → Outcome kind act v u → (2 ≤ kind) × (kind ≤ 3)
+outcome-kind : {kind : ℕ} {act : Act} {v u : Value} → Successor kind act v u → (2 ≤ kind) × (kind ≤ 3)
 outcome-kind (updates v) = omega arith
 outcome-kind (removes v u) = omega arith
 
-outcome-tells : {kind : ℕ} {act : Act} {v u : Value} (e uid : ℕ) (k : Name) → Outcome kind act v u → Tells act u (entry kind e uid k v)
-outcome-tells e uid k (updates v) = tells-value (omega arith) refl refl
-outcome-tells e uid k (removes v u) = tells-nothing (λ p. omega arith) refl
+successor-tells : {kind : ℕ} {act : Act} {v u : Value} (e uid : ℕ) (k : Name) → Successor kind act v u → Tells act u (entry kind e uid k v)
+successor-tells e uid k (updates v) = tells-value (omega arith) refl refl
+successor-tells e uid k (removes v u) = tells-nothing (λ p. omega arith) refl
 
 module _ {kind : ℕ} {act : Act} {e s r : ℕ} {v u : Value} {now before : ℕ} {st : State} {g : ℕ → Slot} (i : Inv st)
     (t : Over kind act e s r v u now before st g) where
@@ -48,7 +49,7 @@ module _ {kind : ℕ} {act : Act} {e s r : ℕ} {v u : Value} {now before : ℕ}
         named = one .named (t .of .payload .0);
         uid-below = one .uid-below;
         not-retired = refl;
-        tells = outcome-tells e (old .working .uid) name (t .outcome);
+        tells = successor-tells e (old .working .uid) name (t .outcome);
       }
 
   -- the other slots are behind it

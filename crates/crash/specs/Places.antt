@@ -6,7 +6,7 @@ use native.Mathlib.Decide.{ℕ-discrete, decLe}
 use Rattle.crash.specs.Table.{Every}
 use Rattle.crash.specs.Slots.{Place, State, SameHead, SameLine, Flushed, Underway, Inv}
 use Rattle.crash.specs.Steps.{moved, Looks, Passes}
-use Rattle.crash.specs.Kin.{quiet-flushed}
+use Rattle.crash.specs.OneSlot.{quiet-flushed}
 
 -- what a change of the place owes
 placed-inv : {st : State} {p : Place} → Inv st → Every (Underway (st .clock) p) (st .slots) → Inv (moved st (st .slots) p)

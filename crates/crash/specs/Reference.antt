@@ -5,20 +5,14 @@ use Prim.Native.Nat.{ℕ}
 use mathlib.Core.List.{List, [], _∷_}
 use mathlib.Core.Option.{Option, none, some}
 use mathlib.Core.Bool.{cond}
-use lib.Dec.{leb, eqb}
-
--- what names a job: its key
-abbrev pub Name : Type 0
-Name = ℕ
-
-abbrev pub no-name : Name
-no-name = 0
+use lib.Dec.{leb}
+use Rattle.image.specs.Name.{Name, sameName}
 
 abbrev pub Value : Type 0
 Value = List ℕ
 
 pub data Act : Type 0 where
-  made changed deleted : Act
+  made altered dropped : Act
 
 -- one entry of the row: `epoch` is its operation's
 pub record Change : Type 0 where
@@ -34,11 +28,11 @@ Jobs = Name → Option Value
 -- "new and set give the key the value, delete takes it away"
 abbrev pub leaves : Act → Value → Option Value
 leaves made v = some v
-leaves changed v = some v
-leaves deleted v = none
+leaves altered v = some v
+leaves dropped v = none
 
 abbrev pub applied : Change → Jobs → Jobs
-applied ch jobs = λ k. cond (eqb k (ch .name)) (leaves (ch .act) (ch .value)) (jobs k)
+applied ch jobs = λ k. cond (sameName k (ch .name)) (leaves (ch .act) (ch .value)) (jobs k)
 
 -- the entries of operations whose epoch is at most e, in order
 abbrev pub played : ℕ → Jobs → List Change → Jobs

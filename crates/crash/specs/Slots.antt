@@ -4,8 +4,10 @@ use mathlib.Core.Path.{_≡_}
 use mathlib.Core.Logic.{_≢_, _⊎_, _↔_}
 use mathlib.Core.List.{List, List·Memᴰ}
 use mathlib.Core.Option.{some}
+use Rattle.image.specs.Layout.{mostNumber}
+use Rattle.image.specs.Name.{Name, Named, name-same}
 use Rattle.crash.specs.Table.{Pairwise, Every, Any}
-use Rattle.crash.specs.Reference.{Name, no-name, Value, Jobs, Change, jobsAt}
+use Rattle.crash.specs.Reference.{Value, Jobs, Change, jobsAt}
 
 -- a header and its contents
 pub record Entry : Type 0 where
@@ -53,7 +55,7 @@ pub record Proper (c : ℕ) (x : Entry) : Type 0 where
   pub epoch-lo : 1 ≤ x .kind → 2 ≤ x .epoch
   pub epoch-hi : x .epoch ≤ c
   pub uid-lo : 1 ≤ x .kind → 1 ≤ x .uid
-  pub uid-hi : x .uid ≤ 4000000000
+  pub uid-hi : x .uid ≤ mostNumber
 
 pub record SameHead (x y : Entry) : Type 0 where
   pub kind-is : x .kind ≡ y .kind
@@ -93,7 +95,7 @@ pub record One (c u : ℕ) (a : Slot) : Type 0 where
   -- I0
   pub proper : Proper c (a .working)
   pub uid-below : a .working .uid < u
-  pub named : Filled (a .working) → a .working .name ≢ no-name
+  pub named : Filled (a .working) → Named (a .working .name)
   -- I2: the bounds of a retirement
   pub retired-hi : a .retired ≤ c
   pub retired-lo : 1 ≤ a .retired → c ≤ a .retired + 2

@@ -3,9 +3,11 @@ use Prim.Native.Nat.{ℕ, suc, _+_, _≤_, _<_}
 use mathlib.Core.Path.{_≡_}
 use mathlib.Core.Logic.{_≢_, _⊎_, _↔_}
 use mathlib.Core.Option.{some}
-use mathlib.Core.List.{[], _∷_, _++_}
+use mathlib.Core.List.{_∷_, _++_}
+use Rattle.image.specs.Layout.{mostNumber}
+use Rattle.image.specs.Name.{Name, Named}
 use Rattle.crash.specs.Table.{Put, Put2, Pairwise}
-use Rattle.crash.specs.Reference.{Name, no-name, Value, Act, changed, deleted}
+use Rattle.crash.specs.Reference.{Value, Act, altered, dropped}
 use Rattle.crash.specs.Slots.{Entry, Slot, Place, State, Filled, Payload, Proper, SameHead, SameLine, Shows, Swept, Flushed}
 
 abbrev pub entry : ℕ → ℕ → ℕ → Name → Value → Entry
@@ -83,8 +85,8 @@ pub record New (e s : ℕ) (k : Name) (v : Value) (now before : ℕ) (st : State
   pub operation : Operation e st
   pub joins : Joins (st .clock) e now before (st .slots s)
   pub free : st .slots s .working .kind ≡ 0
-  pub named : k ≢ no-name
-  pub uid-hi : st .uid ≤ 4000000000
+  pub named : Named k
+  pub uid-hi : st .uid ≤ mostNumber
   pub no-live : (m : ℕ) → Payload (st .slots m .working) → st .slots m .working .name ≡ k → 1 ≤ st .slots m .retired
   pub no-later : (m : ℕ) → Filled (st .slots m .working) → st .slots m .working .name ≡ k → st .slots m .working .epoch ≤ e
   pub put : Put (st .slots) g s (filled (entry 1 e (st .uid) k v) now before (st .slots s))
@@ -97,12 +99,12 @@ pub record Current (e r : ℕ) (st : State) : Type 0 where
 
 -- a set by a new UPDATE, or a delete by a new DELETE, in slot s, of the older version in r
 -- v is the value in the slot, u that of the row
-pub data Outcome : ℕ → Act → Value → Value → Type 0 where
-  updates : (v : Value) → Outcome 2 changed v v
-  removes : (v u : Value) → Outcome 3 deleted v u
+pub data Successor : ℕ → Act → Value → Value → Type 0 where
+  updates : (v : Value) → Successor 2 altered v v
+  removes : (v u : Value) → Successor 3 dropped v u
 
 pub record Over (kind : ℕ) (act : Act) (e s r : ℕ) (v u : Value) (now before : ℕ) (st : State) (g : ℕ → Slot) : Type 0 where
-  pub outcome : Outcome kind act v u
+  pub outcome : Successor kind act v u
   pub of : Current e r st
   pub joins : Joins (st .clock) e now before (st .slots s)
   pub free : st .slots s .working .kind ≡ 0
@@ -166,7 +168,7 @@ pub record Settled (c u : ℕ) (a : Slot) : Type 0 where
   pub payload : a .working .kind ≤ 2
   pub old : a .working .epoch + 2 ≤ c
   pub uid-below : a .working .uid < u
-  pub named : Filled (a .working) → a .working .name ≢ no-name
+  pub named : Filled (a .working) → Named (a .working .name)
   pub not-retired : a .retired ≡ 0
 
 -- two filled slots have two uids and two names

@@ -5,11 +5,13 @@ use mathlib.Core.Logic.{_↔_, Iff·trans}
 use mathlib.Core.Option.{some}
 use native.Mathlib.Omega.{arith}
 use native.Mathlib.Decide.{decLe}
-use Rattle.crash.specs.Reference.{Name, Value, jobsAt}
+use Rattle.image.specs.Name.{Name}
+use Rattle.crash.specs.Reference.{Value, jobsAt}
 use Rattle.crash.specs.Slots.{Entry, Slot, State, Proper, Visible, Shows, One, Inv}
 use Rattle.crash.specs.Steps.{ticked, tickedState, Tick}
-use Rattle.crash.specs.Kin.{slotty, rest-underway, Dressed, dressed-two, dressed-next, dressed-shows}
 use Rattle.crash.specs.Laws.{jobs-agree}
+use Rattle.crash.specs.OneSlot.{slotty, rest-underway}
+use Rattle.crash.specs.Dressed.{Dressed, dressed-two, dressed-next, dressed-shows}
 
 -- a proper entry stays proper
 proper-suc : {c : ℕ} {x : Entry} → Proper c x → Proper (suc c) x

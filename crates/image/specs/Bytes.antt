@@ -1,9 +1,8 @@
 -- 01: "Bytes stand four to a word, lowest first."
 use Prim.Native.Nat.{ℕ, zero, suc, _+_, _*_, _≤_, _<_}
-use mathlib.Core.Path.{_≡_, refl, sym, ap, _∙_}
+use mathlib.Core.Path.{_≡_, refl, ap}
 use mathlib.Core.List.{List, [], _∷_}
 use lib.ListN.{length, getD}
-use native.Mathlib.Nat.{mul-suc}
 use native.Mathlib.Omega.{arith}
 
 unfoldable pub wordsOf : List ℕ → List ℕ

@@ -3,7 +3,7 @@ use Prim.Native.Nat.{ℕ, zero, suc, _+_, _*_, _-_, _≤_, _<_}
 use mathlib.Core.Path.{_≡_, refl, sym, ap, _∙_}
 use mathlib.Core.Logic.{_≢_, _⊎_, inl, inr, ⊎-elim}
 use mathlib.Core.List.{List, [], _∷_}
-use mathlib.Core.Bool.{Bool, true, false, _&&_}
+use mathlib.Core.Bool.{Bool, true, _&&_}
 use lib.ListN.{length, getD, set, take, drop, length-set, length-take, length-drop}
 use lib.Dec.{leb, eqb}
 use lib.Seq.{getD-set-same, getD-set-other, ext-getD, getD-take, getD-drop, take-nil, drop-drop}
@@ -15,7 +15,7 @@ use Rattle.search.specs.Bools.{and-left, and-right}
 use Rattle.image.specs.declared.header.Header.{Header}
 use Rattle.image.specs.Layout.{mostSlots, headerWords, headerAt, contentsAt, imageWords, kindAt, epochAt, uidAt, header, contents, keyAt, valueAt, slotsOf, widthOf, clockOf, sizesOk, shapeOk}
 use Rattle.image.specs.Line.{Line, headerLine, contentsLine, clockLine, stored, storeLine}
-use Rattle.image.specs.Requires.{InRange, Sized, Slot, HeaderFits, room-of, slot-after}
+use Rattle.image.specs.Requires.{InRange, Sized, Slot, HeaderFits, room-of}
 
 -- ---- an image of the right shape has its sizes
 pub area-top : {n w : ℕ} → InRange n w → w * n ≤ 9 * mostSlots

@@ -5,6 +5,7 @@ use mathlib.Core.Logic.{_≢_}
 use mathlib.Core.Bool.{Bool, true, false}
 use mathlib.Core.List.{List}
 use lib.Dec.{eqb}
+use native.Mathlib.Decide.{ℕ-discrete}
 use borrow.Author.Tests.{eqb-true, eqb-false, eq-eqb, ne-eqb}
 use Rattle.image.specs.declared.header.Header.{Header}
 use Rattle.image.specs.Layout.{header, keyAt}
@@ -33,6 +34,9 @@ sameName a b = eqb a b
 unfoldable pub unnamed : Name → Bool
 unnamed name = eqb (keyOf name) 0
 
+abbrev pub Named : Name → Type 0
+Named name = keyOf name ≢ 0
+
 -- ---- the tests say what they ask
 pub same-name : (a b : Name) → sameName a b ≡ true → a ≡ b
 unfolding sameName
@@ -54,10 +58,13 @@ pub unnamed-true : (a : Name) → unnamed a ≡ true → keyOf a ≡ 0
 unfolding unnamed
 unnamed-true a e = eqb-true (keyOf a) 0 e
 
-pub unnamed-false : (a : Name) → unnamed a ≡ false → keyOf a ≢ 0
+pub unnamed-false : (a : Name) → unnamed a ≡ false → Named a
 unfolding unnamed
 unnamed-false a e = eqb-false (keyOf a) 0 e
 
-pub named-not : (a : Name) → keyOf a ≢ 0 → unnamed a ≡ false
+pub named-not : (a : Name) → Named a → unnamed a ≡ false
 unfolding unnamed
 named-not a e = ne-eqb (keyOf a) 0 e
+
+pub name-dec : Discrete Name
+name-dec = ℕ-discrete

@@ -1,19 +1,17 @@
 -- The ways out of this crate's functions.
 use Prim.Native.Nat.{ℕ, _+_, _*_, _-_, _%_, _^_, _≤_, _<_}
-use mathlib.Core.Path.{_≡_, refl, sym, ap, _∙_}
-use mathlib.Core.Bool.{Bool, true, false, not, _&&_, _||_}
+use mathlib.Core.Path.{_≡_, refl, sym, _∙_}
+use mathlib.Core.Bool.{Bool, true, false, not}
 use mathlib.Core.List.{List}
 use mathlib.Core.Logic.{⊎-elim}
 use lib.ListN.{length, getD, set, replicate}
 use lib.Dec.{leb, ltb, eqb}
-use borrow.Author.Tests.{lt-ltb, le-ltb, le-leb, lt-leb, eq-eqb, ne-eqb, ltb-true, ltb-false, leb-true, eqb-true, not-false}
+use borrow.Author.Tests.{lt-ltb, le-ltb, le-leb, lt-leb, eq-eqb, ne-eqb, ltb-true, ltb-false, leb-true, eqb-true}
 use native.Mathlib.Omega.{arith}
 use Rattle.search.specs.Bools.{cases, refuted, same-test, and-left, and-right, tests}
 use Rattle.search.specs.Some.{every, Held, held-next, loops as everies}
-use Rattle.reply.specs.declared.Check.{Check}
 use Rattle.reply.specs.declared.Check.the-variants.{Accepted, Refused}
 use Rattle.reply.specs.declared.Refusal.the-variants.{BadSizes, BadClock}
-use Rattle.reply.specs.Refusals.{refuse}
 use Rattle.image.specs.Layout.{mostSlots, mostNumber, slotsOf, widthOf, clockOf, shapeOk, clockOk}
 use Rattle.image.specs.Line.{stored}
 use Rattle.image.specs.Requires.{Sized}
@@ -25,7 +23,7 @@ use Rattle.transient.specs.Layout.{slotsAt, lastAt, nextUidAt, phaseAt, 
 use Rattle.transient.specs.Entry.{imagesFit, uidOk, notesFit, sizesFit, openOk, opensOk, clocksFit, entryCheck}
 use Rattle.transient.specs.Requires.{ThreadRoom, Notes, Sizable, Paired, sizesAlike, Threads, Fitting, requires-laws}
 use Rattle.transient.specs.Clearing.{clearings}
-use Rattle.transient.specs.Passed.{Sizing, sizing, sizes-t}
+use Rattle.transient.specs.Passed.{sizing, sizes-t}
 
 -- ---- sizes
 -- a length too small wraps to a number that is too large

@@ -18,7 +18,7 @@ use Rattle.image.specs.Requires.{Sized}
 use Rattle.image.specs.Laws.{shaped}
 use Rattle.transient.specs.declared.sizes.Sizes.{Sizes}
 use Rattle.transient.specs.Layout.{threadsOf, threadsOk, notedSlots, lastTaken, nextUidOf, placeSlot}
-use Rattle.transient.specs.Store.{Store, Table, store, table, tableOf, sizesOf, Outcome, outcome, afterCheck}
+use Rattle.transient.specs.Store.{Table, store, table, sizesOf, outcome}
 use Rattle.transient.specs.Entry.{imagesFit, uidOk, notesFit, sizesFit, clocksFit, entryCheck}
 use Rattle.transient.specs.Calls.{Changed, changed, inStore, onStore}
 use Rattle.transient.specs.Requires.{Notes, Sizable, Entered, EnteredWith}

@@ -1,39 +1,18 @@
--- What several changes share: order among the slots of one uid, and an operation's write of an entry into one slot.
-use Prim.Native.Nat.{ℕ, _+_, _-_, _≤_, _<_}
+-- An operation of epoch e writes an entry of the job k into slot s.
+use Prim.Native.Nat.{ℕ, _+_, _≤_, _<_}
 use mathlib.Core.Path.{_≡_, ap, sym, _∙_}
 use mathlib.Core.Logic.{_≢_, _⊎_, inl, inr, _↔_}
 use mathlib.Core.Option.{none, some}
 use native.Mathlib.Omega.{arith}
 use native.Mathlib.Decide.{ℕ-discrete}
+use Rattle.image.specs.Name.{Name, Named}
 use Rattle.crash.specs.Table.{Put, Any, every-put, pairwise-put, any-new, any-keep, any-case}
-use Rattle.crash.specs.Reference.{Name, no-name, Value, Act, leaves}
+use Rattle.crash.specs.Reference.{Value, Act, leaves}
 use Rattle.crash.specs.Laws.{late-snoc, shown-step}
 use Rattle.crash.specs.Slots.{Entry, Slot, State, Filled, Payload, Proper, Visible, Sees, Shows, One, Underway, Kin, Two, Next, Inv}
-use Rattle.crash.specs.Steps.{after, Operation, Joins, Current}
-use Rattle.crash.specs.Kin.{slotty, kin-cases}
+use Rattle.crash.specs.Steps.{after, Operation, Joins}
+use Rattle.crash.specs.OneSlot.{slotty}
 
--- ---- slots of one uid
-module _ {st : State} (i : Inv st) where
-  -- slots of one uid have one name, also where the two are one slot
-  pub uid-name : (m n : ℕ) → Filled (st .slots m .working) → Filled (st .slots n .working)
-      → st .slots m .working .uid ≡ st .slots n .working .uid → st .slots m .working .name ≡ st .slots n .working .name
-  uid-name m n p q u = elim (ℕ-discrete m n) [
-    | yes e ↦ cc
-    | no h ↦ elim (kin-cases (i .two) m n h p q u) [ inl a ↦ a .name-same | inr a ↦ sym (a .name-same) ]
-  ]
-
-  module _ {e r : ℕ} (of : Current e r st) where
-    -- of a current payload every other filled slot of its uid is older
-    pub current-newest : (m : ℕ) → m ≢ r → Filled (st .slots m .working) → st .slots m .working .uid ≡ st .slots r .working .uid
-        → Kin (st .slots m) (st .slots r)
-    current-newest m h p u = elim (kin-cases (i .two) m r h p (of .payload .0) u) [ inl a ↦ a | inr a ↦ absurd (omega arith) ]
-
-    -- while a current payload is visible, no other slot shows its name
-    pub current-lone : (d m : ℕ) → m ≢ r → st .slots r .working .epoch ≤ d → Visible d (st .slots m)
-        → st .slots m .working .name ≢ st .slots r .working .name
-    current-lone d m h l w = i .two m r h .disjoint d w (record { payload = of .payload; begun = l; live = inl (of .current) })
-
--- ---- an operation of epoch e writes an entry of the job k into slot s
 -- an entry with an epoch is filled
 pub proper-filled : {c : ℕ} {x : Entry} → Proper c x → 1 ≤ x .epoch → Filled x
 proper-filled {c} {x} p h = elim (ℕ-discrete (x .kind) 0) [ yes z ↦ absurd (omega (arith, p .free-epoch z)) | no z ↦ omega arith ]
@@ -67,7 +46,7 @@ pub record Write (act : Act) (e s uid : ℕ) (k : Name) (v : Value) (x : Entry) 
   pub was : Own e k (st .slots s .working)
   pub own : Own e k x
   pub proper : Proper (st .clock) x
-  pub named : k ≢ no-name
+  pub named : Named k
   pub uid-below : x .uid < uid
   pub not-retired : retired ≡ 0
   pub tells : Tells act v x
