@@ -2,7 +2,7 @@
 use Prim.Native.Nat.{ℕ, _+_, _≤_}
 use mathlib.Core.Path.{_≡_, refl}
 use mathlib.Core.Logic.{Iff·trans}
-use mathlib.Core.List.{List·Memᴰ·not-nil}
+use mathlib.Core.List.{[], List·Memᴰ·not-nil}
 use native.Mathlib.Omega.{arith}
 use Rattle.image.specs.Name.{Name}
 use Rattle.crash.specs.Reference.{Value, Jobs, jobsAt}

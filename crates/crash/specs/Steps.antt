@@ -3,7 +3,7 @@ use Prim.Native.Nat.{ℕ, suc, _+_, _≤_, _<_}
 use mathlib.Core.Path.{_≡_}
 use mathlib.Core.Logic.{_≢_, _⊎_, _↔_}
 use mathlib.Core.Option.{some}
-use mathlib.Core.List.{_∷_, _++_}
+use mathlib.Core.List.{[], _∷_, _++_}
 use Rattle.image.specs.Layout.{mostNumber}
 use Rattle.image.specs.Name.{Name, Named}
 use Rattle.crash.specs.Table.{Put, Put2, Pairwise}
