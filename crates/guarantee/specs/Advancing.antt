@@ -30,30 +30,30 @@ use Rattle.guarantee.specs.Flushing.{flush-good, head-good}
 use Rattle.guarantee.specs.Reclaiming.{reclaim-good}
 
 -- ---- one step, by the phase
-module _ {n w t : ℕ} {start : Jobs} {st : Store} {p : Plain} (y : Ready n w t start st p) (k : placeSlot (st .transient) < n) where
+module _ {sz : Sizes} {start : Jobs} {st : Store} {p : Plain} (y : Ready sz start st p) (k : placeSlot (st .transient) < sz .n) where
   abbrev phase : ℕ
   phase = placePhase (st .transient)
 
   abbrev slot : ℕ
   slot = placeSlot (st .transient)
 
-  placed : {q : Place} → progress n phase slot ≡ q → Reached n w t start st p q
+  placed : {q : Place} → progress (sz .n) phase slot ≡ q → Reached sz start st p q
   placed e = rw e at (y .good .inv)
 
-  in-phase : {q : Place} (j : ℕ) → phase ≡ j → progress n j slot ≡ q → Reached n w t start st p q
-  in-phase j e d = placed (ap (λ i. progress n i slot) e ∙ d)
+  in-phase : {q : Place} (j : ℕ) → phase ≡ j → progress (sz .n) j slot ≡ q → Reached sz start st p q
+  in-phase j e d = placed (ap (λ i. progress (sz .n) i slot) e ∙ d)
 
-  step-good : Fine n w t start p (step (st .working) (st .persistent) (st .transient) n w t (p .clock) (placeOf (st .transient)))
+  step-good : Fine sz start p (step (st .working) (st .persistent) (st .transient) sz (p .clock) (placeOf (st .transient)))
   unfolding step
   step-good = elim (ℕ-discrete phase 1) [
-    | yes a ↦ rw (eq-eqb phase 1 a) (reclaim-good y slot (in-phase 1 a (progress-one n slot)))
+    | yes a ↦ rw (eq-eqb phase 1 a) (reclaim-good y slot (in-phase 1 a (progress-one (sz .n) slot)))
     | no a ↦ rw (ne-eqb phase 1 a) (elim (ℕ-discrete phase 2) [
-      | yes b ↦ rw (eq-eqb phase 2 b) (flush-good y slot (in-phase 2 b (progress-two n slot)))
+      | yes b ↦ rw (eq-eqb phase 2 b) (flush-good y slot (in-phase 2 b (progress-two (sz .n) slot)))
       | no b ↦ rw (ne-eqb phase 2 b) (elim (ℕ-discrete phase 3) [
-        | yes c ↦ rw (eq-eqb phase 3 c) (head-good y slot k (in-phase 3 c (progress-three n slot)))
+        | yes c ↦ rw (eq-eqb phase 3 c) (head-good y slot k (in-phase 3 c (progress-three (sz .n) slot)))
         | no c ↦ rw (ne-eqb phase 3 c) (elim (ℕ-discrete phase 4) [
-          | yes d ↦ rw (eq-eqb phase 4 d) (tick-good y (in-phase 4 d (progress-four n slot)))
-          | no d ↦ rw (ne-eqb phase 4 d) (reclaim-good y 0 (placed (progress-none n phase slot a b c d)))
+          | yes d ↦ rw (eq-eqb phase 4 d) (tick-good y (in-phase 4 d (progress-four (sz .n) slot)))
+          | no d ↦ rw (ne-eqb phase 4 d) (reclaim-good y 0 (placed (progress-none (sz .n) phase slot a b c d)))
         ])
       ])
     ])
@@ -64,15 +64,15 @@ module _ {n w t : ℕ} {start : Jobs} {st : Store} {p : Plain} (y : Ready n w t 
 place-below : (st : Store) → entryCheck st ≡ Accepted → placeSlot (st .transient) < slotsOf (st .working)
 place-below st a = entry-sizing (st .working) (st .persistent) (st .transient) a .place
 
-module _ {n w t : ℕ} {start : Jobs} {st : Store} {p : Plain} (g : Good n w t start st p) where
+module _ {sz : Sizes} {start : Jobs} {st : Store} {p : Plain} (g : Good sz start st p) where
   -- refusals 14 and 15 passed
-  ready : advanceCheck (st .transient) t (p .clock) ≡ Accepted → Ready n w t start st p
+  ready : advanceCheck (st .transient) t (p .clock) ≡ Accepted → Ready sz start st p
   unfolding advanceCheck openBelow
   ready e =
       let below : ℕ → Bool = λ u. eqb (openEpoch (st .transient) u + 1) (p .clock) in
-      let last = eqb (p .clock) 4000000000 in
+      let last = eqb (p .clock) mostNumber in
       let a = not-refused (not (underway (st .transient)) && some below t) StillOpen (refuse last LastEpoch Accepted) e in
-      let top = eqb-false (p .clock) 4000000000 (not-refused last LastEpoch Accepted (a .1) .0) in
+      let top = eqb-false (p .clock) mostNumber (not-refused last LastEpoch Accepted (a .1) .0) in
       record {
         good = g;
         quiet = λ u h q. never _ (and-both (not-is-true (g .opens .quiet u h q)) (some-at below t u h (eq-eqb _ _ q))) (a .0);
@@ -84,13 +84,13 @@ module _ {n w t : ℕ} {start : Jobs} {st : Store} {p : Plain} (g : Good n w t s
   check = andThen (entryCheck st) (advanceCheck (st .transient) t (p .clock))
 
   abbrev next : Stepped
-  next = step (st .working) (st .persistent) (st .transient) n w t (p .clock) (placeOf (st .transient))
+  next = step (st .working) (st .persistent) (st .transient) sz (p .clock) (placeOf (st .transient))
 
-  pub advance-good : Good n w t start (advance st .store) (toldAdvance (advance st .reply) p)
+  pub advance-good : Good sz start (advance st .store) (toldAdvance (advance st .reply) p)
   unfolding advance
   advance-good = rw (threads-is g, g .working .slots-is, g .working .width-is, g .working .clock-is) (go check refl)
     where
-      go : (k : Check) → check ≡ k → Good n w t start (stepping k st next .store) (toldAdvance (stepping k st next .reply) p)
+      go : (k : Check) → check ≡ k → Good sz start (stepping k st next .store) (toldAdvance (stepping k st next .reply) p)
       go (Refused r) e = g
       go Accepted e =
           let a = both-accepted (entryCheck st) _ e in

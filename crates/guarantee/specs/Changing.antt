@@ -17,8 +17,8 @@ use Rattle.transient.specs.Store.{Store, store}
 use Rattle.transient.specs.Layout.{lastTaken, openEpoch}
 use Rattle.transient.specs.Entry.{threads, entryCheck}
 use Rattle.changes.specs.Code.{entry-passed}
-use Rattle.changes.specs.Job.{badJob, operating}
-use Rattle.changes.specs.Changed.{Changed, refused, declines, entered, onStore, Answer}
+use Rattle.jobs.specs.Job.{badJob, operating}
+use Rattle.transient.specs.Calls.{Changed, refused, declines, entered, onStore, Answer}
 use Rattle.crash.specs.Reference.{Jobs, Act, Value}
 use Rattle.guarantee.specs.Trace.{Plain, toldChange}
 use Rattle.guarantee.specs.Good.{Good}
@@ -38,45 +38,45 @@ call-way P st call a b = go (entryCheck st) refl
     go (Refused r) e = a r
     go Accepted e = b e
 
-pub threads-is : {n w t : ℕ} {start : Jobs} {st : Store} {p : Plain} → Good n w t start st p → threads st ≡ t
+pub threads-is : {sz : Sizes} {start : Jobs} {st : Store} {p : Plain} → Good sz start st p → threads st ≡ t
 threads-is g = rw (g .notes .long, g .working .slots-is) (omega arith)
 
 -- what a call's part leaves is good
-pub record Fine (n w t : ℕ) (start : Jobs) (l : List ℕ) (p : Plain) (act : Act) (thread key : ℕ) (v : Value) (ch : Changed) : Type 0 where
-  pub good : Good n w t start (store (ch .working) l (ch .transient)) (toldChange (ch .reply) act thread key v p)
+pub record Fine (sz : Sizes) (start : Jobs) (l : List ℕ) (p : Plain) (act : Act) (thread key : ℕ) (v : Value) (ch : Changed) : Type 0 where
+  pub good : Good sz start (store (ch .working) l (ch .transient)) (toldChange (ch .reply) act thread key v p)
 
-module _ {n w t : ℕ} {start : Jobs} {wk l tr : List ℕ} {p : Plain} {act : Act} {thread key : ℕ} {v : Value} (g : Good n w t start (store wk l tr) p) where
-  pub fine-refused : (r : Refusal) → Fine n w t start l p act thread key v (refused r wk tr)
+module _ {sz : Sizes} {start : Jobs} {wk l tr : List ℕ} {p : Plain} {act : Act} {thread key : ℕ} {v : Value} (g : Good sz start (store wk l tr) p) where
+  pub fine-refused : (r : Refusal) → Fine sz start l p act thread key v (refused r wk tr)
   fine-refused r = record { good = g }
 
   -- a condition that refuses, or what follows
-  pub fine-declines : (b : Bool) (r : Refusal) (next : Changed) → (b ≡ false → Fine n w t start l p act thread key v next)
-      → Fine n w t start l p act thread key v (declines b r wk tr next)
-  fine-declines b r next h = declines-way (Fine n w t start l p act thread key v) wk tr b r next (record { good = g }) h
+  pub fine-declines : (b : Bool) (r : Refusal) (next : Changed) → (b ≡ false → Fine sz start l p act thread key v next)
+      → Fine sz start l p act thread key v (declines b r wk tr next)
+  fine-declines b r next h = declines-way (Fine sz start l p act thread key v) wk tr b r next (record { good = g }) h
 
 -- a whole call, from its part after refusals 1 and 2
-pub fine-call : {n w t : ℕ} {start : Jobs} {st : Store} {p : Plain} {act : Act} {thread key : ℕ} {v : Value} (call : List ℕ → List ℕ → ℕ → ℕ → ℕ → Changed)
-    → Good n w t start st p
-    → (entryCheck st ≡ Accepted → Fine n w t start (st .persistent) p act thread key v (call (st .working) (st .transient) n w t))
-    → Good n w t start (onStore st call .store) (toldChange (onStore st call .reply) act thread key v p)
-fine-call {n} {w} {t} {start} {st} {p} {act} {thread} {key} {v} call g h =
-    call-way (λ a. Good n w t start (a .store) (toldChange (a .reply) act thread key v p)) st call (λ r. g)
+pub fine-call : {sz : Sizes} {start : Jobs} {st : Store} {p : Plain} {act : Act} {thread key : ℕ} {v : Value} (call : List ℕ → List ℕ → ℕ → ℕ → ℕ → Changed)
+    → Good sz start st p
+    → (entryCheck st ≡ Accepted → Fine sz start (st .persistent) p act thread key v (call (st .working) (st .transient) sz))
+    → Good sz start (onStore st call .store) (toldChange (onStore st call .reply) act thread key v p)
+fine-call {sz} {start} {st} {p} {act} {thread} {key} {v} call g h =
+    call-way (λ a. Good sz start (a .store) (toldChange (a .reply) act thread key v p)) st call (λ r. g)
     (λ e. rw (threads-is g, g .working .slots-is, g .working .width-is) (h e .good))
 
 -- the last slot taken is one of the table
-pub last-below : {n w t : ℕ} {start : Jobs} {st : Store} {p : Plain} → Good n w t start st p → entryCheck st ≡ Accepted → lastTaken (st .transient) < n
+pub last-below : {sz : Sizes} {start : Jobs} {st : Store} {p : Plain} → Good sz start st p → entryCheck st ≡ Accepted → lastTaken (st .transient) < sz .n
 last-below {st = st} g a = rw (g .working .slots-is) at (entry-passed (st .working) (st .persistent) (st .transient) refl a .inside .last)
 
 -- 5, 7 and 8
-module _ {n w t : ℕ} {start : Jobs} {wk l tr : List ℕ} {p : Plain} {act : Act} {thread key : ℕ} {v : Value} (g : Good n w t start (store wk l tr) p) where
+module _ {sz : Sizes} {start : Jobs} {wk l tr : List ℕ} {p : Plain} {act : Act} {thread key : ℕ} {v : Value} (g : Good sz start (store wk l tr) p) where
   pub operating-fine : (bad : Bool) (next : Changed)
-      → (thread < t → openEpoch tr thread ≢ 0 → bad ≡ false → Fine n w t start l p act thread key v next)
-      → Fine n w t start l p act thread key v (operating wk tr t thread bad next)
+      → (thread < sz .t → openEpoch tr thread ≢ 0 → bad ≡ false → Fine sz start l p act thread key v next)
+      → Fine sz start l p act thread key v (operating wk tr t thread bad next)
   operating-fine bad next h =
-      fine-declines g (leb t thread) NoThread _
+      fine-declines g (leb (sz .t) thread) NoThread _
       (λ a. fine-declines g (eqb (openEpoch tr thread) 0) NotOpen _
       (λ b. fine-declines g bad BadArgument next
-      (λ c. h (leb-false t thread a) (eqb-false _ 0 b) c)))
+      (λ c. h (leb-false (sz .t) thread a) (eqb-false _ 0 b) c)))
 
 pub bad-key : (w key words : ℕ) → badJob w key words ≡ false → key ≢ 0
 unfolding badJob

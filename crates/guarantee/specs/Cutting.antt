@@ -63,7 +63,7 @@ says-proper c h line p = elim (ℕ-discrete (h .kind) 0) [
         le-leb 2 (h .epoch) (p .epoch-lo k),
         le-leb (h .epoch) c (p .epoch-hi),
         le-leb 1 (h .uid) (p .uid-lo k),
-        le-leb (h .uid) 4000000000 (p .uid-hi),
+        le-leb (h .uid) mostNumber (p .uid-hi),
       )
 ]
 
@@ -92,53 +92,53 @@ proper-says c h line p = elim (proper-cases c h p) [
 ]
 
 -- ---- the table whose persistent side is an image of n slots and w words, at the clock less 2
-module _ (st : Store) (n w t c e : ℕ) (cut : e + 2 ≡ clockOf (st .persistent)) where
+module _ (st : Store) (sz : Sizes) (c e : ℕ) (cut : e + 2 ≡ clockOf (st .persistent)) where
   abbrev slots : ℕ → Slot
-  slots = view st n w t c
+  slots = view st sz c
 
   abbrev l : List ℕ
   l = st .persistent
 
   -- a slot with something in it is one of the image
-  filled-in : (s : ℕ) → Filled (slots s .persistent) → s < n
+  filled-in : (s : ℕ) → Filled (slots s .persistent) → s < sz .n
   filled-in s f = elim (decLt s n) [
     | yes h ↦ h
-    | no h ↦ let q : 1 ≤ 0 = rw (view-out st n w t c s (omega arith)) at f in absurd (omega arith)
+    | no h ↦ let q : 1 ≤ 0 = rw (view-out st sz c s (omega arith)) at f in absurd (omega arith)
   ]
 
   -- a kept header, in the table
-  kept-at : (s : ℕ) → s < n → kept (clockOf l) (header l s) ≡ true → Kept e (slots s .persistent)
-  kept-at s h k = rw (view-in st n w t c s h) (kept-says (clockOf l) e (header l s) (contents l n w s) cut k)
+  kept-at : (s : ℕ) → s < sz .n → kept (clockOf l) (header l s) ≡ true → Kept e (slots s .persistent)
+  kept-at s h k = rw (view-in st sz c s h) (kept-says (clockOf l) e (header l s) (contents l (sz .n) (sz .w) s) cut k)
 
   -- what wins in the table is beaten by no header of the image
-  unbeaten : (s : ℕ) → s < n → Survives e slots s → (m : ℕ) → m < n → beats (clockOf l) (header l s) (header l m) ≡ false
+  unbeaten : (s : ℕ) → s < sz .n → Survives e slots s → (m : ℕ) → m < sz .n → beats (clockOf l) (header l s) (header l m) ≡ false
   unfolding beats
   unbeaten s h v m b = refuted (beats (clockOf l) (header l s) (header l m)) (λ y.
       let x = kept (clockOf l) (header l m) in
       let u = eqb (header l m .uid) (header l s .uid) in
       let r = and-right x _ y in
-      let top = rw (view-in st n w t c s h, view-in st n w t c m b) at (v .wins m (kept-at m b (and-left x _ y))) in
+      let top = rw (view-in st sz c s h, view-in st sz c m b) at (v .wins m (kept-at m b (and-left x _ y))) in
       let one-uid = eqb-true (header l m .uid) (header l s .uid) (and-left u _ r) in
       let late = ltb-true (header l s .epoch) (header l m .epoch) (and-right u _ r) in
       omega (arith, top one-uid))
 
   -- a survivor of the table is one of the image
-  at-survives : (s : ℕ) → Survives e slots s → (s < n) × (survivor l n s ≡ true)
+  at-survives : (s : ℕ) → Survives e slots s → (s < sz .n) × (survivor l n s ≡ true)
   unfolding survivor survives wins beaten
   at-survives s v =
       let h = filled-in s (v .kept .filled) in
-      let k = rw (view-in st n w t c s h) at (v .kept) in
-      let p = rw (view-in st n w t c s h) at (v .payload) in
-      let is-kept = says-kept (clockOf l) e (header l s) (contents l n w s) cut (omega arith) k in
+      let k = rw (view-in st sz c s h) at (v .kept) in
+      let p = rw (view-in st sz c s h) at (v .payload) in
+      let is-kept = says-kept (clockOf l) e (header l s) (contents l (sz .n) (sz .w) s) cut (omega arith) k in
       let alone = none-some (λ m. beats (clockOf l) (header l s) (header l m)) n (unbeaten s h v) in
       (h, and-both (says-payload (header l s .kind) (k .filled) p) (and-both is-kept (not-is-true alone)))
 
-  module _ (kinds : (m : ℕ) → m < n → header l m .kind ≤ 3) where
+  module _ (kinds : (m : ℕ) → m < sz .n → header l m .kind ≤ 3) where
     -- .. and a survivor of the image one of the table
-    pub survives-at : (s : ℕ) → s < n → survivor l n s ≡ true → Survives e slots s
+    pub survives-at : (s : ℕ) → s < sz .n → survivor l n s ≡ true → Survives e slots s
     unfolding survivor survives wins beaten beats
     survives-at s h v =
-        let is = view-in st n w t c s h in
+        let is = view-in st sz c s h in
         let p = payloadKind (header l s .kind) in
         let k = kept (clockOf l) (header l s) in
         let won = and-right p _ v in
@@ -148,7 +148,7 @@ module _ (st : Store) (n w t c e : ℕ) (cut : e + 2 ≡ clockOf (st .persistent
           payload = rw is (payload-says (header l s .kind) (and-left p _ v) .1);
           wins = λ m x u.
               let b = filled-in m (x .filled) in
-              let at = view-in st n w t c m b in
+              let at = view-in st sz c m b in
               let x′ = rw at at x in
               let u′ = rw (at, is) at u in
               rw (at, is)
@@ -157,7 +157,7 @@ module _ (st : Store) (n w t c e : ℕ) (cut : e + 2 ≡ clockOf (st .persistent
                 | no y ↦
                     let late : header l s .epoch < header l m .epoch = omega arith in
                     never _
-                    (and-both (says-kept (clockOf l) e (header l m) (contents l n w m) cut (kinds m b) x′) (and-both (eq-eqb _ _ u′) (lt-ltb _ _ late)))
+                    (and-both (says-kept (clockOf l) e (header l m) (contents l (sz .n) (sz .w) m) cut (kinds m b) x′) (and-both (eq-eqb _ _ u′) (lt-ltb _ _ late)))
                     (unbeaten m b)
               ]);
         }
@@ -166,10 +166,10 @@ module _ (st : Store) (n w t c e : ℕ) (cut : e + 2 ≡ clockOf (st .persistent
 -- a survivor with the key k and the value v
 pub record Job (l : List ℕ) (n w : ℕ) (k : Name) (v : Value) : Type 0 where
   pub at : ℕ
-  pub below : at < n
+  pub below : at < sz .n
   pub survives : survivor l n at ≡ true
-  pub key-is : keyAt l n w at ≡ k
-  pub value-is : valueAt l n w at ≡ v
+  pub key-is : keyAt l (sz .n) (sz .w) at ≡ k
+  pub value-is : valueAt l (sz .n) (sz .w) at ≡ v
 
 -- two answers with the same values are the same
 option-same : {A : Type 0} (a b : Option A) → ((v : A) → (a ≡ some v) ↔ (b ≡ some v)) → a ≡ b
@@ -229,12 +229,12 @@ unfolding finished
 rebuilt-copy r = ap (λ (x : Store). x .working) (r .rest)
 
 -- ---- the cut
-module _ {n w t : ℕ} {start : Jobs} {st : Store} {p : Plain} (g : Good n w t start st p) where
+module _ {sz : Sizes} {start : Jobs} {st : Store} {p : Plain} (g : Good sz start st p) where
   abbrev image : List ℕ
   image = st .persistent
 
   abbrev table : ℕ → Slot
-  table = view st n w t (p .clock)
+  table = view st sz (p .clock)
 
   abbrev e : ℕ
   e = p .clock - 2
@@ -250,40 +250,40 @@ module _ {n w t : ℕ} {start : Jobs} {st : Store} {p : Plain} (g : Good n w t s
   some-width = omega (arith, g .persistent .sized .sizes .width-lo)
 
   -- the persistent side of a slot: header, key and value
-  is-at : (s : ℕ) → s < n → view st n w t (p .clock) s .persistent ≡ entryOf (header image s) (contents image n w s)
-  is-at s h = rw (view-in st n w t (p .clock) s h)
+  is-at : (s : ℕ) → s < sz .n → view st sz (p .clock) s .persistent ≡ entryOf (header image s) (contents image (sz .n) (sz .w) s)
+  is-at s h = rw (view-in st sz (p .clock) s h)
 
-  name-at : (s : ℕ) → s < n → table s .persistent .name ≡ keyAt image n w s
-  name-at s h = rw (is-at s h) (sym (key-contents image n w s some-width))
+  name-at : (s : ℕ) → s < sz .n → table s .persistent .name ≡ keyAt image (sz .n) (sz .w) s
+  name-at s h = rw (is-at s h) (sym (key-contents image (sz .n) (sz .w) s some-width))
 
-  value-at : (s : ℕ) → s < n → table s .persistent .value ≡ valueAt image n w s
-  value-at s h = rw (is-at s h) (sym (value-contents image n w s some-width))
+  value-at : (s : ℕ) → s < sz .n → table s .persistent .value ≡ valueAt image (sz .n) (sz .w) s
+  value-at s h = rw (is-at s h) (sym (value-contents image (sz .n) (sz .w) s some-width))
 
-  proper-at : (s : ℕ) → s < n → Proper (p .clock) (entryOf (header image s) (contents image n w s))
+  proper-at : (s : ℕ) → s < sz .n → Proper (p .clock) (entryOf (header image s) (contents image (sz .n) (sz .w) s))
   proper-at s h = rw (is-at s h) at (g .inv .one s .proper-persistent)
 
   -- kept slots and survivors of the image are those of the table
-  kept-here : (s : ℕ) → s < n → kept (clockOf image) (header image s) ≡ true → Kept e (table s .persistent)
-  kept-here = kept-at st n w t (p .clock) e cut-image
+  kept-here : (s : ℕ) → s < sz .n → kept (clockOf image) (header image s) ≡ true → Kept e (table s .persistent)
+  kept-here = kept-at st sz (p .clock) e cut-image
 
-  survives-here : (s : ℕ) → s < n → survivor image n s ≡ true → Survives e table s
-  survives-here = survives-at st n w t (p .clock) e cut-image (λ m h. proper-at m h .kind-hi)
+  survives-here : (s : ℕ) → s < sz .n → survivor image n s ≡ true → Survives e table s
+  survives-here = survives-at st sz (p .clock) e cut-image (λ m h. proper-at m h .kind-hi)
 
   -- no survivor has the key 0
-  cut-nameless : (s : ℕ) → s < n → nameless image n w s ≡ false
+  cut-nameless : (s : ℕ) → s < sz .n → nameless image n w s ≡ false
   unfolding nameless
   cut-nameless s h = refuted (nameless image n w s) (λ y.
       let x = survivor image n s in
-      cut-named (g .inv) cut-clock s (survives-here s h (and-left x _ y)) (name-at s h ∙ eqb-true (keyAt image n w s) 0 (and-right x _ y)))
+      cut-named (g .inv) cut-clock s (survives-here s h (and-left x _ y)) (name-at s h ∙ eqb-true (keyAt image (sz .n) (sz .w) s) 0 (and-right x _ y)))
 
   -- no version is kept twice
-  cut-version : (s : ℕ) → s < n → versionBelow (clockOf image) (header image) s ≡ false
+  cut-version : (s : ℕ) → s < sz .n → versionBelow (clockOf image) (header image) s ≡ false
   unfolding versionBelow sameVersion
   cut-version s h = refuted (versionBelow (clockOf image) (header image) s) (λ y.
       let x = kept (clockOf image) (header image s) in
       let o = some-one (λ m. sameVersion (clockOf image) (header image s) (header image m)) s (and-right x _ y) in
       let m = o .at in
-      let b : m < n = omega (arith, o .below) in
+      let b : m < sz .n = omega (arith, o .below) in
       let d : m ≢ s = λ q. omega (arith, o .below) in
       let z = kept (clockOf image) (header image m) in
       let u = eqb (header image m .uid) (header image s .uid) in
@@ -293,13 +293,13 @@ module _ {n w t : ℕ} {start : Jobs} {st : Store} {p : Plain} (g : Good n w t s
       (rw (is-at m b, is-at s h) (eqb-true _ _ (and-right u _ r))))
 
   -- no key survives twice
-  cut-key : (s : ℕ) → s < n → keyBelow image n w s ≡ false
+  cut-key : (s : ℕ) → s < sz .n → keyBelow image n w s ≡ false
   unfolding keyBelow keySurvives
   cut-key s h = refuted (keyBelow image n w s) (λ y.
       let x = survivor image n s in
-      let o = some-one (keySurvives image n w (keyAt image n w s)) s (and-right x _ y) in
+      let o = some-one (keySurvives image n w (keyAt image (sz .n) (sz .w) s)) s (and-right x _ y) in
       let m = o .at in
-      let b : m < n = omega (arith, o .below) in
+      let b : m < sz .n = omega (arith, o .below) in
       let d : m ≢ s = λ q. omega (arith, o .below) in
       let z = survivor image n m in
       cut-names (g .inv) cut-clock m s d (survives-here m b (and-left z _ (o .passes))) (survives-here s h (and-left x _ y))
@@ -311,7 +311,7 @@ module _ {n w t : ℕ} {start : Jobs} {st : Store} {p : Plain} (g : Good n w t s
       let i = g .persistent in
       let sound : Sound image n w =
       record {
-        all-proper = λ s h. rw (i .clock-is) (says-proper (p .clock) (header image s) (contents image n w s) (proper-at s h));
+        all-proper = λ s h. rw (i .clock-is) (says-proper (p .clock) (header image s) (contents image (sz .n) (sz .w) s) (proper-at s h));
         named = cut-nameless;
         versions = cut-version;
         keys = cut-key;
@@ -334,7 +334,7 @@ module _ {n w t : ℕ} {start : Jobs} {st : Store} {p : Plain} (g : Good n w t s
           name-is = name-at (j .at) h ∙ j .key-is;
           value-is = value-at (j .at) h ∙ j .value-is;
         },
-    λ a. let s = at-survives st n w t (p .clock) e cut-image (a .at) (a .survives) in
+    λ a. let s = at-survives st sz (p .clock) e cut-image (a .at) (a .survives) in
         record {
           at = a .at;
           below = s .0;

@@ -40,9 +40,9 @@ use Rattle.guarantee.specs.Stepping.{flushedTo, halfAt, progress-three, 
 use Rattle.guarantee.specs.Ticking.{Fine, tick-good}
 
 -- ---- a line of slot s
-module _ {n w t : ℕ} {start : Jobs} {st : Store} {p : Plain} (g : Good n w t start st p) {s : ℕ} (k : s < n) where
+module _ {sz : Sizes} {start : Jobs} {st : Store} {p : Plain} (g : Good sz start st p) {s : ℕ} (k : s < sz .n) where
   abbrev x : Slot
-  x = view st n w t (p .clock) s
+  x = view st sz (p .clock) s
 
   abbrev line : List ℕ
   line = contentsLine (st .working) (st .persistent) n w s
@@ -50,33 +50,33 @@ module _ {n w t : ℕ} {start : Jobs} {st : Store} {p : Plain} (g : Good n w t s
   abbrev head : List ℕ
   head = headerLine (st .working) (st .persistent) s
 
-  line-wrote : Wrote (st .persistent) line n w s (header (st .persistent) s) (contents (st .working) n w s)
+  line-wrote : Wrote (st .persistent) line sz s (header (st .persistent) s) (contents (st .working) (sz .n) (sz .w) s)
   unfolding contentsLine
-  line-wrote = contents-wrote (g .persistent .sized) k (contents (st .working) n w s) (length-contents (slot (g .working .sized) k))
+  line-wrote = contents-wrote (g .persistent .sized) k (contents (st .working) (sz .n) (sz .w) s) (length-contents (slot (g .working .sized) k))
 
-  head-wrote : Wrote (st .persistent) head n w s (header (st .working) s) (contents (st .persistent) n w s)
+  head-wrote : Wrote (st .persistent) head sz s (header (st .working) s) (contents (st .persistent) (sz .n) (sz .w) s)
   unfolding headerLine
   head-wrote = header-wrote (g .persistent .sized) k (header (st .working) s)
 
-  line-image : Image n w (p .clock) line
+  line-image : Image sz (p .clock) line
   line-image = wrote-image line-wrote (g .persistent)
 
-  head-image : Image n w (p .clock) head
+  head-image : Image sz (p .clock) head
   head-image = wrote-image head-wrote (g .persistent)
 
   -- the table after it
-  module _ (tr : List ℕ) (z : Noted (st .transient) tr t s (retiredIn (st .transient) t s)) where
+  module _ (tr : List ℕ) (z : Noted (st .transient) tr t s (retiredIn sz (st .transient) s)) where
     abbrev lined : ℕ → Slot
-    lined = view (store (st .working) line tr) n w t (p .clock)
+    lined = view (store (st .working) line tr) sz (p .clock)
 
     abbrev headered : ℕ → Slot
-    headered = view (store (st .working) head tr) n w t (p .clock)
+    headered = view (store (st .working) head tr) sz (p .clock)
 
-    line-put : Put (view st n w t (p .clock)) lined s (stored (headed (x .persistent) (x .working)) x)
-    line-put = rw (view-in st n w t (p .clock) s k) (step-put st (store (st .working) line tr) n w t (p .clock) s _ unwrote line-wrote z k)
+    line-put : Put (view st sz (p .clock)) lined s (stored (headed (x .persistent) (x .working)) x)
+    line-put = rw (view-in st sz (p .clock) s k) (step-put st (store (st .working) line tr) sz (p .clock) s _ unwrote line-wrote z k)
 
-    head-put : Put (view st n w t (p .clock)) headered s (stored (headed (x .working) (x .persistent)) x)
-    head-put = rw (view-in st n w t (p .clock) s k) (step-put st (store (st .working) head tr) n w t (p .clock) s _ unwrote head-wrote z k)
+    head-put : Put (view st sz (p .clock)) headered s (stored (headed (x .working) (x .persistent)) x)
+    head-put = rw (view-in st sz (p .clock) s k) (step-put st (store (st .working) head tr) sz (p .clock) s _ unwrote head-wrote z k)
 
     -- both images have the line
     line-same : SameLine (lined s .persistent) (lined s .working)
@@ -86,16 +86,16 @@ module _ {n w t : ℕ} {start : Jobs} {st : Store} {p : Plain} (g : Good n w t s
     head-same = rw (head-put .here) (record { kind-is = refl; epoch-is = refl; uid-is = refl })
 
 -- ---- by the memory
-module _ {n w t : ℕ} {start : Jobs} {st : Store} {p : Plain} (slot line : ℕ) (g : Good n w t start st p) where
+module _ {sz : Sizes} {start : Jobs} {st : Store} {p : Plain} (slot line : ℕ) (g : Good sz start st p) where
   abbrev with : List ℕ → Store
   with l = store (st .working) l (st .transient)
 
   -- only the persistent image changes
-  with-good : {l : List ℕ} → Image n w (p .clock) l → Inv (stateOf n w t start (with l) p) → Good n w t start (with l) p
+  with-good : {l : List ℕ} → Image sz (p .clock) l → Inv (stateOf sz start (with l) p) → Good sz start (with l) p
   with-good a i = record { clock-hi = g .clock-hi; working = g .working; persistent = a; notes = g .notes; opens = g .opens; past = g .past; inv = i }
 
   -- one of the two lines of a slot
-  copied-good : slot < n → Good n w t start (with (copied st slot line)) p
+  copied-good : slot < sz .n → Good sz start (with (copied st slot line)) p
   unfolding copied
   copied-good k =
       rw (g .working .slots-is, g .working .width-is)
@@ -104,11 +104,11 @@ module _ {n w t : ℕ} {start : Jobs} {st : Store} {p : Plain} (slot line : ℕ)
       (λ (e : eqb line 0 ≡ false). rw e (with-good (head-image g k) (head-inv (g .inv) (record { put = head-put g k (st .transient) noted-none }))))
       (cases (eqb line 0)))
 
-  pub write-back-good : Good n w t start (writeBack st slot line .store) p
+  pub write-back-good : Good sz start (writeBack st slot line .store) p
   unfolding writeBack writeBackCheck
   write-back-good = go (writeBackCheck st slot line) refl
     where
-      go : (r : Check) → writeBackCheck st slot line ≡ r → Good n w t start (written r st (copied st slot line) .store) p
+      go : (r : Check) → writeBackCheck st slot line ≡ r → Good sz start (written r st (copied st slot line) .store) p
       go (Refused r) e = g
       go Accepted e =
           let out = leb (slotsOf (st .working)) slot in
@@ -116,7 +116,7 @@ module _ {n w t : ℕ} {start : Jobs} {st : Store} {p : Plain} (slot line : ℕ)
           copied-good (omega (arith, leb-false (slotsOf (st .working)) slot (or-left out _ (a .0)), g .working .slots-is))
 
 -- ---- by advance
-module _ {n w t : ℕ} {start : Jobs} {st : Store} {p : Plain} (y : Ready n w t start st p) where
+module _ {sz : Sizes} {start : Jobs} {st : Store} {p : Plain} (y : Ready sz start st p) where
   abbrev c : ℕ
   c = p .clock
 
@@ -124,35 +124,35 @@ module _ {n w t : ℕ} {start : Jobs} {st : Store} {p : Plain} (y : Ready n w t 
   tr = st .transient
 
   abbrev waits : ℕ → ℕ → Bool
-  waits q m = leb q m && isWaiting tr n t (c - 1) m
+  waits q m = leb q m && isWaiting sz tr (c - 1) m
 
   -- a slot that is passed does not wait
-  idle : (q m : ℕ) → q ≤ m → waits q m ≡ false → m < n → view st n w t c m .before ≡ 0
+  idle : (q m : ℕ) → q ≤ m → waits q m ≡ false → m < sz .n → view st sz c m .before ≡ 0
   idle q m a f h =
       let z : c - 1 + 2 ≡ c + 1 = omega (arith, y .good .inv .clock-lo) in
-      let off : isWaiting tr n t (c - 1) m ≡ false = refuted _ (λ e. never _ (and-both (le-leb q m a) e) f) in
-      rw (view-in st n w t c m h, ← z, waiting-again tr n t (c - 1) m) (flag-off off)
+      let off : isWaiting sz tr (c - 1) m ≡ false = refuted _ (λ e. never _ (and-both (le-leb q m a) e) f) in
+      rw (view-in st sz c m h, ← z, waiting-again tr n t (c - 1) m) (flag-off off)
 
   -- the contents of the next slot that waits, or the clock
-  pub flush-good : (q : ℕ) → Reached n w t start st p (flushedTo n q) → Fine n w t start p (flushFrom (st .working) (st .persistent) tr n w t c q)
+  pub flush-good : (q : ℕ) → Reached sz start st p (flushedTo (sz .n) q) → Fine sz start p (flushFrom (st .working) (st .persistent) tr sz c q)
   unfolding flushFrom waitingFrom
   flush-good q i = go (waitingFrom tr n t c q) refl
     where
-      go : (f : Found) → waitingFrom tr n t c q ≡ f → Fine n w t start p (flushing f (st .working) (st .persistent) tr n w t c)
+      go : (f : Found) → waitingFrom tr n t c q ≡ f → Fine sz start p (flushing f (st .working) (st .persistent) tr sz c)
       go (At s) e =
           let f = found-first (waits q) n e in
           let k = f .below in
           let z = noted-place tr t s 3 s in
           let passed = passes-inv s i (record { quiet = λ m a b. idle q m a (f .before m b) (omega arith) }) in
-          went-good y tr 3 s (y .good .working) (line-image (y .good) k) z (progress-three n s)
+          went-good y tr 3 s (y .good .working) (line-image (y .good) k) z (progress-three (sz .n) s)
           (half-inv (line-inv passed (record { put = line-put (y .good) k _ z })) (line-same (y .good) k _ z))
-      go Nothing e = tick-good y (passes-inv n i (record { quiet = λ m a b. idle q m a (found-nothing (waits q) n e m b) b }))
+      go Nothing e = tick-good y (passes-inv (sz .n) i (record { quiet = λ m a b. idle q m a (found-nothing (waits q) n e m b) b }))
 
   -- the header of the slot whose contents are written
-  pub head-good : (s : ℕ) → s < n → Reached n w t start st p (halfAt n s)
-      → Fine n w t start p (stepped WentOn (st .working) (headerLine (st .working) (st .persistent) s) tr (passing n s 2 4))
+  pub head-good : (s : ℕ) → s < sz .n → Reached sz start st p (halfAt (sz .n) s)
+      → Fine sz start p (stepped WentOn (st .working) (headerLine (st .working) (st .persistent) s) tr (passing (sz .n) s 2 4))
   head-good s k i =
-      let to = passing n s 2 4 in
+      let to = passing (sz .n) s 2 4 in
       let z = noted-place tr t s (to .phase) (to .slot) in
-      went-good y tr (to .phase) (to .slot) (y .good .working) (head-image (y .good) k) z (passing-flushed n s k)
+      went-good y tr (to .phase) (to .slot) (y .good .working) (head-image (y .good) k) z (passing-flushed (sz .n) s k)
       (whole-inv (head-inv i (record { put = head-put (y .good) k _ z })) refl (head-same (y .good) k _ z))

@@ -40,9 +40,9 @@ pub record Resting (p : Place) : Type 0 where
   pub flushed : p .flushed ≡ 0
   pub half : p .half ≡ 0
 
-pub progress-rest : (n : ℕ) (tr : List ℕ) → underway tr ≡ false → Resting (progress n (placePhase tr) (placeSlot tr))
+pub progress-rest : (n : ℕ) (tr : List ℕ) → underway tr ≡ false → Resting (progress (sz .n) (placePhase tr) (placeSlot tr))
 unfolding underway progress
-progress-rest n tr u =
+progress-rest (sz .n) tr u =
     let k = placePhase tr in
     let off : (j : ℕ) → 1 ≤ j → j ≤ 4 → eqb k j ≡ false =
     λ j a b. ne-eqb k j (λ q. never _ (and-both (le-leb 1 k (omega arith)) (le-leb k 4 (omega arith))) u) in
@@ -51,14 +51,14 @@ progress-rest n tr u =
 -- ---- the notes but for slots: the open operations and the place
 pub record NotesKept (tr tr′ : List ℕ) (t : ℕ) : Type 0 where
   pub long : length tr′ ≡ length tr
-  pub opens : (thread : ℕ) → thread < t → openEpoch tr′ thread ≡ openEpoch tr thread
+  pub opens : (thread : ℕ) → thread < sz .t → openEpoch tr′ thread ≡ openEpoch tr thread
   pub phase : placePhase tr′ ≡ placePhase tr
   pub slot : placeSlot tr′ ≡ placeSlot tr
 
 pub joined-notes : {tr tr′ : List ℕ} {n t e s r u : ℕ} → Joined tr tr′ n t e s r u → NotesKept tr tr′ t
 joined-notes z = record { long = z .long; opens = joined-open z; phase = joined-phase z; slot = joined-slot z }
 
-pub opens-after : {t : ℕ} {tr tr′ : List ℕ} {p : Plain} → NotesKept tr tr′ t → Opens t tr p → Opens t tr′ p
+pub opens-after : {t : ℕ} {tr tr′ : List ℕ} {p : Plain} → NotesKept tr tr′ t → Opens sz tr p → Opens sz tr′ p
 unfolding underway
 opens-after z o =
     record {
@@ -69,9 +69,9 @@ opens-after z o =
       quiet = λ u h. rw (z .opens u h, z .phase) (o .quiet u h);
     }
 
-module _ {n w t : ℕ} {start : Jobs} {st : Store} {p : Plain} (g : Good n w t start st p) where
+module _ {sz : Sizes} {start : Jobs} {st : Store} {p : Plain} (g : Good sz start st p) where
   -- ---- the operation
-  pub operation-of : (thread : ℕ) → thread < t → openEpoch (st .transient) thread ≢ 0 → Operation (openEpoch (st .transient) thread) (stateOf n w t start st p)
+  pub operation-of : (thread : ℕ) → thread < sz .t → openEpoch (st .transient) thread ≢ 0 → Operation (openEpoch (st .transient) thread) (stateOf sz start st p)
   operation-of thread h q =
       let o = g .opens in
       let e : 1 ≤ openEpoch (st .transient) thread = omega arith in
@@ -79,41 +79,41 @@ module _ {n w t : ℕ} {start : Jobs} {st : Store} {p : Plain} (g : Good n w t s
         epoch-least = o .least thread h e;
         epoch-lo = o .low thread h e;
         epoch-hi = o .high thread h;
-        quiet-flushed = λ z. progress-rest n (st .transient) (o .quiet thread h z) .flushed;
-        quiet-half = λ z. progress-rest n (st .transient) (o .quiet thread h z) .half;
+        quiet-flushed = λ z. progress-rest (sz .n) (st .transient) (o .quiet thread h z) .flushed;
+        quiet-half = λ z. progress-rest (sz .n) (st .transient) (o .quiet thread h z) .half;
       }
 
   -- ---- the slot that is written
-  module _ {wk′ tr′ : List ℕ} {e s r u : ℕ} {h : Header} {line : List ℕ} (a : Wrote (st .working) wk′ n w s h line) (j : Joined (st .transient) tr′ n t e s r u) (k : s < n) where
+  module _ {wk′ tr′ : List ℕ} {e s r u : ℕ} {h : Header} {line : List ℕ} (a : Wrote (st .working) wk′ sz s h line) (j : Joined (st .transient) tr′ n t e s r u) (k : s < sz .n) where
     abbrev now : ℕ
-    now = flag (isWaiting tr′ n t (p .clock) s)
+    now = flag (isWaiting sz tr′ (p .clock) s)
 
     abbrev before : ℕ
-    before = flag (isWaiting tr′ n t (p .clock + 1) s)
+    before = flag (isWaiting sz tr′ (p .clock + 1) s)
 
-    here : slotOf (store wk′ (st .persistent) tr′) n w t (p .clock) s
-        ≡ record { working = entryOf h line; persistent = view st n w t (p .clock) s .persistent; retired = r; now = now; before = before }
-    here = rw (view-in st n w t (p .clock) s k, a .header-here, a .line-here, j .retired)
+    here : slotOf (store wk′ (st .persistent) tr′) sz (p .clock) s
+        ≡ record { working = entryOf h line; persistent = view st sz (p .clock) s .persistent; retired = r; now = now; before = before }
+    here = rw (view-in st sz (p .clock) s k, a .header-here, a .line-here, j .retired)
 
-    there : (m : ℕ) → m < n → m ≢ s → slotOf (store wk′ (st .persistent) tr′) n w t (p .clock) m ≡ slotOf st n w t (p .clock) m
+    there : (m : ℕ) → m < sz .n → m ≢ s → slotOf (store wk′ (st .persistent) tr′) sz (p .clock) m ≡ slotOf st sz (p .clock) m
     there m b d =
         rw (a .header-there m b d, a .line-there m b d, joined-retired j m b d, joined-waiting j (p .clock) m k b d, joined-waiting j (p .clock + 1) m k b d)
 
-    pub change-put : Put (view st n w t (p .clock)) (view (store wk′ (st .persistent) tr′) n w t (p .clock)) s
-        (record { working = entryOf h line; persistent = view st n w t (p .clock) s .persistent; retired = r; now = now; before = before })
-    change-put = view-put st (store wk′ (st .persistent) tr′) n w t (p .clock) s _ k here there
+    pub change-put : Put (view st sz (p .clock)) (view (store wk′ (st .persistent) tr′) sz (p .clock)) s
+        (record { working = entryOf h line; persistent = view st sz (p .clock) s .persistent; retired = r; now = now; before = before })
+    change-put = view-put st (store wk′ (st .persistent) tr′) sz (p .clock) s _ k here there
 
-    pub change-joins : Joins (p .clock) e now before (view st n w t (p .clock) s)
+    pub change-joins : Joins (p .clock) e now before (view st sz (p .clock) s)
     change-joins =
-        rw (view-in st n w t (p .clock) s k)
+        rw (view-in st sz (p .clock) s k)
         record {
-          now-kept = flag-up (isWaiting (st .transient) n t (p .clock) s) (isWaiting tr′ n t (p .clock) s) (joined-kept j (p .clock) k);
-          before-kept = flag-up (isWaiting (st .transient) n t (p .clock + 1) s) (isWaiting tr′ n t (p .clock + 1) s) (joined-kept j (p .clock + 1) k);
+          now-kept = flag-up (isWaiting sz (st .transient) (p .clock) s) (isWaiting sz tr′ (p .clock) s) (joined-kept j (p .clock) k);
+          before-kept = flag-up (isWaiting sz (st .transient) (p .clock + 1) s) (isWaiting sz tr′ (p .clock + 1) s) (joined-kept j (p .clock + 1) k);
           joins-now = λ q. flag-on (rw q at (joined-in j));
-          joins-before = λ q. let y : isWaiting tr′ n t (p .clock + 1) s ≡ true = rw (← q) (waiting-later q) in flag-on y;
+          joins-before = λ q. let y : isWaiting sz tr′ (p .clock + 1) s ≡ true = rw (← q) (waiting-later q) in flag-on y;
         }
       where
-        waiting-later : e + 1 ≡ p .clock → isWaiting tr′ n t (e + 1 + 1) s ≡ true
+        waiting-later : e + 1 ≡ p .clock → isWaiting sz tr′ (e + 1 + 1) s ≡ true
         waiting-later q = let z : e + 1 + 1 ≡ e + 2 = omega arith in rw z (waiting-again tr′ n t e s ∙ joined-in j)
 
   -- ---- all else
@@ -124,10 +124,10 @@ module _ {n w t : ℕ} {start : Jobs} {st : Store} {p : Plain} (g : Good n w t s
   -- the state that a change leaves: other slots, a next uid, another row
   abbrev pub changedState : (ℕ → Slot) → ℕ → List Change → State
   changedState f u row =
-      record { slots = f; clock = p .clock; uid = u; place = progress n (placePhase (st .transient)) (placeSlot (st .transient)); start = start; row = row }
+      record { slots = f; clock = p .clock; uid = u; place = progress (sz .n) (placePhase (st .transient)) (placeSlot (st .transient)); start = start; row = row }
 
-  pub good-change : {wk′ tr′ : List ℕ} {u : ℕ} {row row′ : List Change} → Image n w (p .clock) wk′ → NotesKept (st .transient) tr′ t → nextUidOf tr′ ≡ u → row′ ≡ row
-      → Inv (changedState (view (store wk′ (st .persistent) tr′) n w t (p .clock)) u row) → Good n w t start (store wk′ (st .persistent) tr′) (rowed row′)
+  pub good-change : {wk′ tr′ : List ℕ} {u : ℕ} {row row′ : List Change} → Image sz (p .clock) wk′ → NotesKept (st .transient) tr′ t → nextUidOf tr′ ≡ u → row′ ≡ row
+      → Inv (changedState (view (store wk′ (st .persistent) tr′) sz (p .clock)) u row) → Good sz start (store wk′ (st .persistent) tr′) (rowed row′)
   good-change i z a b v =
       record {
         clock-hi = g .clock-hi;
@@ -140,7 +140,7 @@ module _ {n w t : ℕ} {start : Jobs} {st : Store} {p : Plain} (g : Good n w t s
       }
 
   -- an entry of the row by the operation's epoch in the notes
-  pub row-epoch : (act : Act) (thread : ℕ) (k : Name) (v : Value) → thread < t
+  pub row-epoch : (act : Act) (thread : ℕ) (k : Name) (v : Value) → thread < sz .t
       → p .row ++ (record { epoch = p .operation thread; act = act; name = k; value = v } ∷ [])
       ≡ p .row ++ (record { epoch = openEpoch (st .transient) thread; act = act; name = k; value = v } ∷ [])
   row-epoch act thread k v h = rw (g .opens .same thread h)

@@ -14,12 +14,12 @@ use Rattle.guarantee.specs.View.{view, progress}
 
 -- the clock is the reference map's: that both images have it is a line of the invariant
 abbrev pub stateOf : ℕ → ℕ → ℕ → Jobs → Store → Plain → State
-stateOf n w t start st p =
+stateOf sz start st p =
     record {
-      slots = view st n w t (p .clock);
+      slots = view st sz (p .clock);
       clock = p .clock;
       uid = nextUidOf (st .transient);
-      place = progress n (placePhase (st .transient)) (placeSlot (st .transient));
+      place = progress (sz .n) (placePhase (st .transient)) (placeSlot (st .transient));
       start = start;
       row = p .row;
     }
@@ -34,22 +34,22 @@ pub record Image (n w c : ℕ) (l : List ℕ) : Type 0 where
 -- the threads: each one's open epoch is what the reference map has, the clock or one below it;
 -- K2: none is open in c − 1 while an advance is underway
 pub record Opens (t : ℕ) (tr : List ℕ) (p : Plain) : Type 0 where
-  pub same : (thread : ℕ) → thread < t → openEpoch tr thread ≡ p .operation thread
-  pub least : (thread : ℕ) → thread < t → 1 ≤ openEpoch tr thread → 2 ≤ openEpoch tr thread
-  pub low : (thread : ℕ) → thread < t → 1 ≤ openEpoch tr thread → p .clock ≤ openEpoch tr thread + 1
-  pub high : (thread : ℕ) → thread < t → openEpoch tr thread ≤ p .clock
-  pub quiet : (thread : ℕ) → thread < t → openEpoch tr thread + 1 ≡ p .clock → underway tr ≡ false
+  pub same : (thread : ℕ) → thread < sz .t → openEpoch tr thread ≡ p .operation thread
+  pub least : (thread : ℕ) → thread < sz .t → 1 ≤ openEpoch tr thread → 2 ≤ openEpoch tr thread
+  pub low : (thread : ℕ) → thread < sz .t → 1 ≤ openEpoch tr thread → p .clock ≤ openEpoch tr thread + 1
+  pub high : (thread : ℕ) → thread < sz .t → openEpoch tr thread ≤ p .clock
+  pub quiet : (thread : ℕ) → thread < sz .t → openEpoch tr thread + 1 ≡ p .clock → underway tr ≡ false
 
 -- operations that have ended, and those that a sync has made durable
 pub record Past (p : Plain) : Type 0 where
   pub ended-hi : (e : ℕ) → List·Memᴰ e (p .ended) → e ≤ p .clock
   pub durable-hi : (e : ℕ) → List·Memᴰ e (p .durable) → e + 2 ≤ p .clock
 
-pub record Good (n w t : ℕ) (start : Jobs) (st : Store) (p : Plain) : Type 0 where
-  pub clock-hi : p .clock ≤ 4000000000
-  pub working : Image n w (p .clock) (st .working)
-  pub persistent : Image n w (p .clock) (st .persistent)
-  pub notes : Notes (st .transient) n t
-  pub opens : Opens t (st .transient) p
+pub record Good (sz : Sizes) (start : Jobs) (st : Store) (p : Plain) : Type 0 where
+  pub clock-hi : p .clock ≤ mostNumber
+  pub working : Image sz (p .clock) (st .working)
+  pub persistent : Image sz (p .clock) (st .persistent)
+  pub notes : Notes (st .transient) sz
+  pub opens : Opens sz (st .transient) p
   pub past : Past p
-  pub inv : Inv (stateOf n w t start st p)
+  pub inv : Inv (stateOf sz start st p)

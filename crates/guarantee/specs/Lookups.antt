@@ -45,16 +45,16 @@ unfolding filledKind
 filled-says k e = (leb-true 1 k (and-left (leb 1 k) _ e), leb-true k 3 (and-right (leb 1 k) _ e))
 
 -- ---- what a look-up says
-pub record Missing (wk tr : List ℕ) (n w t key e : ℕ) : Type 0 where
+pub record Missing (wk tr : List ℕ) (sz : Sizes) (key e : ℕ) : Type 0 where
   pub newest : newer wk n w key e ≡ false
-  pub none : liveSlot wk tr n w t key ≡ Nothing
+  pub none : liveSlot wk tr sz key ≡ Nothing
 
-pub record Holding (wk tr : List ℕ) (n w t key e s : ℕ) : Type 0 where
+pub record Holding (wk tr : List ℕ) (sz : Sizes) (key e s : ℕ) : Type 0 where
   pub newest : newer wk n w key e ≡ false
-  pub found : liveSlot wk tr n w t key ≡ At s
+  pub found : liveSlot wk tr sz key ≡ At s
 
-module _ (wk tr : List ℕ) (n w t key e : ℕ) where
-  looked : (k : Lookup) → lookup wk tr n w t key e ≡ k → k ≢ Newer → (newer wk n w key e ≡ false) × (lookedUp (liveSlot wk tr n w t key) ≡ k)
+module _ (wk tr : List ℕ) (sz : Sizes) (key e : ℕ) where
+  looked : (k : Lookup) → lookup wk tr sz key e ≡ k → k ≢ Newer → (newer wk n w key e ≡ false) × (lookedUp (liveSlot wk tr sz key) ≡ k)
   unfolding lookup
   looked k q d =
       ⊎-elim
@@ -62,26 +62,26 @@ module _ (wk tr : List ℕ) (n w t key e : ℕ) where
       (λ (y : newer wk n w key e ≡ false). (y, rw y at q))
       (cases (newer wk n w key e))
 
-  pub absent-says : lookup wk tr n w t key e ≡ Absent → Missing wk tr n w t key e
+  pub absent-says : lookup wk tr sz key e ≡ Absent → Missing wk tr sz key e
   absent-says q =
       let b = looked Absent q (λ z. let y : _≡_ {A = ℕ} 0 1 = cc in omega arith) in
-      record { newest = b .0; none = go (liveSlot wk tr n w t key) (b .1) }
+      record { newest = b .0; none = go (liveSlot wk tr sz key) (b .1) }
     where
       go : (f : Found) → lookedUp f ≡ Absent → f ≡ Nothing
       go (At u) r = let z : _≡_ {A = ℕ} 0 1 = cc in absurd (omega arith)
       go Nothing r = refl
 
-  pub live-says : {s : ℕ} → lookup wk tr n w t key e ≡ Live s → Holding wk tr n w t key e s
+  pub live-says : {s : ℕ} → lookup wk tr sz key e ≡ Live s → Holding wk tr sz key e s
   live-says {s} q =
       let b = looked (Live s) q (λ z. let y : _≡_ {A = ℕ} 0 1 = cc in omega arith) in
-      record { newest = b .0; found = go (liveSlot wk tr n w t key) (b .1) }
+      record { newest = b .0; found = go (liveSlot wk tr sz key) (b .1) }
     where
       go : (f : Found) → lookedUp f ≡ Live s → f ≡ At s
       go (At u) r = let z : u ≡ s = cc in rw z
       go Nothing r = let z : _≡_ {A = ℕ} 0 1 = cc in absurd (omega arith)
 
 -- ---- room
-pub room-says : (wk : List ℕ) (n last k s : ℕ) → last < n → room wk n last k ≡ At s → (s < n) × (freeAt wk s ≡ true)
+pub room-says : (wk : List ℕ) (n last k s : ℕ) → last < sz .n → room wk n last k ≡ At s → (s < sz .n) × (freeAt wk s ≡ true)
 unfolding room
 room-says wk n last k s h e =
     ⊎-elim
@@ -90,27 +90,27 @@ room-says wk n last k s h e =
     (cases (leb k (freeCount wk n)))
 
 -- ---- the same, of the table
-module _ {n w t : ℕ} {start : Jobs} {st : Store} {p : Plain} (g : Good n w t start st p) where
+module _ {sz : Sizes} {start : Jobs} {st : Store} {p : Plain} (g : Good sz start st p) where
   abbrev slots : ℕ → Slot
-  slots = view st n w t (p .clock)
+  slots = view st sz (p .clock)
 
   -- a slot with something in it is one of the table
-  pub filled-in : (m : ℕ) → Filled (slots m .working) → m < n
-  filled-in m f = elim (decLt m n) [ yes h ↦ h | no h ↦ absurd (empty (rw (view-out st n w t (p .clock) m (omega arith)) at f)) ]
+  pub filled-in : (m : ℕ) → Filled (slots m .working) → m < sz .n
+  filled-in m f = elim (decLt m n) [ yes h ↦ h | no h ↦ absurd (empty (rw (view-out st sz (p .clock) m (omega arith)) at f)) ]
     where
       empty : 1 ≤ 0 → ⊥
       empty h = omega arith
 
-  pub name-is : (m : ℕ) → m < n → slots m .working .name ≡ keyAt (st .working) n w m
-  name-is m h = rw (view-in st n w t (p .clock) m h) (sym (key-contents (st .working) n w m (omega (arith, g .working .sized .sizes .width-lo))))
+  pub name-is : (m : ℕ) → m < sz .n → slots m .working .name ≡ keyAt (st .working) (sz .n) (sz .w) m
+  name-is m h = rw (view-in st sz (p .clock) m h) (sym (key-contents (st .working) (sz .n) (sz .w) m (omega (arith, g .working .sized .sizes .width-lo))))
 
-  kind-hi : (m : ℕ) → m < n → header (st .working) m .kind ≤ 3
-  kind-hi m h = rw (view-in st n w t (p .clock) m h) at (g .inv .one m .proper .kind-hi)
+  kind-hi : (m : ℕ) → m < sz .n → header (st .working) m .kind ≤ 3
+  kind-hi m h = rw (view-in st sz (p .clock) m h) at (g .inv .one m .proper .kind-hi)
 
-  pub free-says : {s : ℕ} → s < n → freeAt (st .working) s ≡ true → slots s .working .kind ≡ 0
+  pub free-says : {s : ℕ} → s < sz .n → freeAt (st .working) s ≡ true → slots s .working .kind ≡ 0
   unfolding freeAt
   free-says {s} h f =
-      rw (view-in st n w t (p .clock) s h)
+      rw (view-in st sz (p .clock) s h)
       (elim (ℕ-discrete (header (st .working) s .kind) 0) [
         | yes z ↦ z
         | no z ↦ never _ (says-filled (header (st .working) s .kind) (omega arith) (kind-hi s h)) (not-true _ f)
@@ -121,49 +121,49 @@ module _ {n w t : ℕ} {start : Jobs} {st : Store} {p : Plain} (g : Good n w t s
   unfolding newer newerAt
   no-later-of {key} {e} q m f k =
       let h = filled-in m f in
-      let f′ = rw (view-in st n w t (p .clock) m h) at f in
+      let f′ = rw (view-in st sz (p .clock) m h) at f in
       let off = some-none (newerAt (st .working) n w key e) n q m h in
-      rw (view-in st n w t (p .clock) m h)
+      rw (view-in st sz (p .clock) m h)
       (elim (decLe (header (st .working) m .epoch) e) [
         | yes y ↦ y
         | no y ↦ never _ (and-both (says-filled (header (st .working) m .kind) f′ (kind-hi m h)) (and-both (eq-eqb _ _ (sym (name-is m h) ∙ k)) (lt-ltb e _ (omega arith)))) off
       ])
 
   -- no live job of this name
-  pub no-live-of : {key : ℕ} → liveSlot (st .working) (st .transient) n w t key ≡ Nothing → (m : ℕ) → Payload (slots m .working) → slots m .working .name ≡ key → 1 ≤ slots m .retired
+  pub no-live-of : {key : ℕ} → liveSlot (st .working) (st .transient) sz key ≡ Nothing → (m : ℕ) → Payload (slots m .working) → slots m .working .name ≡ key → 1 ≤ slots m .retired
   unfolding liveSlot liveAt
   no-live-of {key} q m f k =
       let h = filled-in m (f .0) in
-      let f′ = rw (view-in st n w t (p .clock) m h) at f in
-      let off = found-nothing (liveAt (st .working) (st .transient) n w t key) n q m h in
-      rw (view-in st n w t (p .clock) m h)
-      (elim (ℕ-discrete (retiredIn (st .transient) t m) 0) [
+      let f′ = rw (view-in st sz (p .clock) m h) at f in
+      let off = found-nothing (liveAt (st .working) (st .transient) sz key) n q m h in
+      rw (view-in st sz (p .clock) m h)
+      (elim (ℕ-discrete (retiredIn sz (st .transient) m) 0) [
         | yes z ↦ never _ (and-both (says-payload (header (st .working) m .kind) (f′ .0) (f′ .1)) (and-both (eq-eqb _ 0 z) (eq-eqb _ _ (sym (name-is m h) ∙ k)))) off
         | no z ↦ omega arith
       ])
 
   -- the live job's slot
   pub record Lives (key s : ℕ) : Type 0 where
-    pub below : s < n
+    pub below : s < sz .n
     pub payload : Payload (slots s .working)
     pub current : slots s .retired ≡ 0
     pub name : slots s .working .name ≡ key
-    pub key-is : keyAt (st .working) n w s ≡ key
+    pub key-is : keyAt (st .working) (sz .n) (sz .w) s ≡ key
 
-  pub live-of : {key s : ℕ} → liveSlot (st .working) (st .transient) n w t key ≡ At s → Lives key s
+  pub live-of : {key s : ℕ} → liveSlot (st .working) (st .transient) sz key ≡ At s → Lives key s
   unfolding liveSlot liveAt
   live-of {key} {s} q =
-      let f = found-first (liveAt (st .working) (st .transient) n w t key) n q in
+      let f = found-first (liveAt (st .working) (st .transient) sz key) n q in
       let h = f .below in
       let a = payloadKind (header (st .working) s .kind) in
-      let b = eqb (retiredIn (st .transient) t s) 0 in
+      let b = eqb (retiredIn sz (st .transient) s) 0 in
       let rest = and-right a _ (f .passes) in
       let pay = payload-says (header (st .working) s .kind) (and-left a _ (f .passes)) in
-      let key-is = eqb-true (keyAt (st .working) n w s) key (and-right b _ rest) in
+      let key-is = eqb-true (keyAt (st .working) (sz .n) (sz .w) s) key (and-right b _ rest) in
       record {
         below = h;
-        payload = rw (view-in st n w t (p .clock) s h) pay;
-        current = rw (view-in st n w t (p .clock) s h) (eqb-true _ 0 (and-left b _ rest));
+        payload = rw (view-in st sz (p .clock) s h) pay;
+        current = rw (view-in st sz (p .clock) s h) (eqb-true _ 0 (and-left b _ rest));
         name = name-is s h ∙ key-is;
         key-is = key-is;
       }

@@ -39,7 +39,7 @@ or-either false b h = inr h
 -- ---- the test
 module _ (wk tr : List ℕ) (t c s : ℕ) where
   abbrev r : ℕ
-  r = retiredIn tr t s
+  r = retiredIn sz tr s
 
   abbrev k : ℕ
   k = header wk s .kind
@@ -69,23 +69,23 @@ module _ (wk tr : List ℕ) (t c s : ℕ) where
   spared-anti d a q = never _ (and-both (eq-eqb k 3 a) (eq-eqb (e + 3) c q)) (or-right (payloadKind k && (not (eqb r 0) && eqb (r + 2) c)) _ d)
 
 -- ---- the step
-module _ {n w t : ℕ} {start : Jobs} {st : Store} {p : Plain} (y : Ready n w t start st p) where
+module _ {sz : Sizes} {start : Jobs} {st : Store} {p : Plain} (y : Ready sz start st p) where
   abbrev c : ℕ
   c = p .clock
 
   abbrev slots : ℕ → Slot
-  slots = view st n w t c
+  slots = view st sz c
 
   abbrev dues : ℕ → ℕ → Bool
   dues q m = leb q m && due (st .working) (st .transient) t c m
 
   -- a slot that is passed has nothing to reclaim
-  spared : (q s : ℕ) → q ≤ s → dues q s ≡ false → s < n → Swept c (slots s)
+  spared : (q s : ℕ) → q ≤ s → dues q s ≡ false → s < sz .n → Swept c (slots s)
   spared q s a f h =
       let off : due (st .working) (st .transient) t c s ≡ false = refuted _ (λ d. never _ (and-both (le-leb q s a) d) f) in
-      let o = rw (view-in st n w t c s h) at (y .good .inv .one s) in
-      rw (view-in st n w t c s h) (record {
-        retired = λ b. elim (decLt c (retiredIn (st .transient) t s + 2)) [
+      let o = rw (view-in st sz c s h) at (y .good .inv .one s) in
+      rw (view-in st sz c s h) (record {
+        retired = λ b. elim (decLt c (retiredIn sz (st .transient) s + 2)) [
           | yes z ↦ z
           | no z ↦
               let v = o .retired-of b .0 in
@@ -98,59 +98,59 @@ module _ {n w t : ℕ} {start : Jobs} {st : Store} {p : Plain} (y : Ready n w t 
       })
 
   -- the slot that is due becomes free
-  module _ (s : ℕ) (h : s < n) where
+  module _ (s : ℕ) (h : s < sz .n) where
     abbrev phase : ℕ
-    phase = passing n s 1 2 .phase
+    phase = passing (sz .n) s 1 2 .phase
 
     abbrev slot : ℕ
-    slot = passing n s 1 2 .slot
+    slot = passing (sz .n) s 1 2 .slot
 
     abbrev wk : List ℕ
-    wk = setHeader (st .working) s freeHeader
+    wk = storeLine (st .working) (headerLine s freeHeader)
 
     abbrev l : List ℕ
-    l = setHeader (st .persistent) s freeHeader
+    l = storeLine (st .persistent) (headerLine s freeHeader)
 
     abbrev tr : List ℕ
-    tr = setRetired (st .transient) t s 0
+    tr = setRetired sz (st .transient) s 0
 
     abbrev st′ : Store
     st′ = store wk l (setPlace tr phase slot)
 
-    working-freed : Wrote (st .working) wk n w s freeHeader (contents (st .working) n w s)
+    working-freed : Wrote (st .working) wk sz s freeHeader (contents (st .working) (sz .n) (sz .w) s)
     working-freed = header-wrote (y .good .working .sized) h freeHeader
 
-    persistent-freed : Wrote (st .persistent) l n w s freeHeader (contents (st .persistent) n w s)
+    persistent-freed : Wrote (st .persistent) l sz s freeHeader (contents (st .persistent) (sz .n) (sz .w) s)
     persistent-freed = header-wrote (y .good .persistent .sized) h freeHeader
 
     notes-freed : Noted (st .transient) (st′ .transient) t s 0
     notes-freed = noted-cleared (y .good .notes) s phase slot h
 
-    freed-put : Put slots (view st′ n w t c) s (steps.reclaimed (slots s))
-    freed-put = rw (view-in st n w t c s h) (step-put st st′ n w t c s 0 working-freed persistent-freed notes-freed h)
+    freed-put : Put slots (view st′ sz c) s (steps.reclaimed (slots s))
+    freed-put = rw (view-in st sz c s h) (step-put st st′ sz c s 0 working-freed persistent-freed notes-freed h)
 
-    freed-swept : (m : ℕ) → s ≤ m → m < s + 1 → Swept c (view st′ n w t c m)
+    freed-swept : (m : ℕ) → s ≤ m → m < s + 1 → Swept c (view st′ sz c m)
     freed-swept m a b =
         let z : m ≡ s = omega arith in
         rw (z, freed-put .here) (record { retired = λ q. absurd (omega arith); anti = λ q. absurd (omega arith) })
 
-    freed-good : due (st .working) (st .transient) t c s ≡ true → Reached n w t start st p (lookedTo s) → Good n w t start st′ p
+    freed-good : due (st .working) (st .transient) t c s ≡ true → Reached sz start st p (lookedTo s) → Good sz start st′ p
     freed-good d i =
-        let x : Reclaim s (moved (stateOf n w t start st p) slots (lookedTo s)) (view st′ n w t c) =
-        record { due = rw (view-in st n w t c s h) (due-says (st .working) (st .transient) t c s d); put = freed-put } in
+        let x : Reclaim s (moved (stateOf sz start st p) slots (lookedTo s)) (view st′ sz c) =
+        record { due = rw (view-in st sz c s h) (due-says (st .working) (st .transient) t c s d); put = freed-put } in
         went-good y tr phase slot (wrote-image working-freed (y .good .working)) (wrote-image persistent-freed (y .good .persistent)) notes-freed
-        (passing-looked n s h) (looks-inv (s + 1) (reclaim-inv i x) (record { swept = freed-swept }))
+        (passing-looked (sz .n) s h) (looks-inv (s + 1) (reclaim-inv i x) (record { swept = freed-swept }))
 
   -- the next slot that is due, or the first that waits, or the clock
-  pub reclaim-good : (q : ℕ) → Reached n w t start st p (lookedTo q)
-      → Fine n w t start p (reclaimFrom (st .working) (st .persistent) (st .transient) n w t c q)
+  pub reclaim-good : (q : ℕ) → Reached sz start st p (lookedTo q)
+      → Fine sz start p (reclaimFrom (st .working) (st .persistent) (st .transient) sz c q)
   unfolding reclaimFrom dueFrom reclaimed
   reclaim-good q i = go (dueFrom (st .working) (st .transient) n t c q) refl
     where
       go : (f : Found) → dueFrom (st .working) (st .transient) n t c q ≡ f
-          → Fine n w t start p (reclaiming f (st .working) (st .persistent) (st .transient) n w t c)
+          → Fine sz start p (reclaiming f (st .working) (st .persistent) (st .transient) sz c)
       go (At s) d =
           let f = found-first (dues q) n d in
           let k = f .below in
           freed-good s k (and-right (leb q s) _ (f .passes)) (looks-inv s i (record { swept = λ m a b. spared q m a (f .before m b) (omega arith) }))
-      go Nothing d = flush-good y 0 (looks-inv n i (record { swept = λ m a b. spared q m a (found-nothing (dues q) n d m b) b }))
+      go Nothing d = flush-good y 0 (looks-inv (sz .n) i (record { swept = λ m a b. spared q m a (found-nothing (dues q) n d m b) b }))

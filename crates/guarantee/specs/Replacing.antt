@@ -17,9 +17,9 @@ use Rattle.transient.specs.Layout.{lastTaken, openEpoch, retiredIn}
 use Rattle.table.specs.declared.find.Lookup.{Lookup}
 use Rattle.table.specs.declared.find.Lookup.the-variants as look
 use Rattle.table.specs.Find.{newer, lookup}
-use Rattle.changes.specs.Job.{badJob}
-use Rattle.changes.specs.Set.{rewritten, updated, setAt, setLooked, setOpened, replaced, set}
-use Rattle.changes.specs.Delete.{freedAt, turned, covered, deleteAt, deleteLooked, deleteOpened, removed, delete}
+use Rattle.jobs.specs.Job.{badJob}
+use Rattle.job_set.specs.Set.{rewritten, updated, setAt, setLooked, setOpened, replaced, set}
+use Rattle.job_delete.specs.Delete.{freedAt, turned, covered, deleteAt, deleteLooked, deleteOpened, removed, delete}
 use Rattle.crash.specs.Table.{Put}
 use Rattle.crash.specs.Reference as ref
 use Rattle.crash.specs.Reference.{Jobs, Value}
@@ -46,58 +46,58 @@ in-place-as : {x y : Entry} {e r now before rr : ℕ} {st : State} {f : ℕ → 
     → InPlace y e r now before st f
 in-place-as a b c j q put = record { of = c; joins = j; epoch-is = q; put = rw (a, b) at put }
 
-module _ {n w t : ℕ} {start : Jobs} {wk l tr : List ℕ} {p : Plain} (thread key s : ℕ) (g : Good n w t start (store wk l tr) p)
-    (within : thread < t) (begun : openEpoch tr thread ≢ 0) (lives : Lives g key s) where
+module _ {sz : Sizes} {start : Jobs} {wk l tr : List ℕ} {p : Plain} (thread key s : ℕ) (g : Good sz start (store wk l tr) p)
+    (within : thread < sz .t) (begun : openEpoch tr thread ≢ 0) (lives : Lives g key s) where
   abbrev e : ℕ
   e = openEpoch tr thread
 
   abbrev old : Slot
-  old = view (store wk l tr) n w t (p .clock) s
+  old = view (store wk l tr) sz (p .clock) s
 
-  at-slot : old ≡ slotOf (store wk l tr) n w t (p .clock) s
-  at-slot = view-in (store wk l tr) n w t (p .clock) s (lives .below)
+  at-slot : old ≡ slotOf (store wk l tr) sz (p .clock) s
+  at-slot = view-in (store wk l tr) sz (p .clock) s (lives .below)
 
-  current : Current e s (stateOf n w t start (store wk l tr) p)
+  current : Current e s (stateOf sz start (store wk l tr) p)
   current = record { operation = operation-of g thread within begun; payload = lives .payload; current = lives .current }
 
   module _ (same : header wk s .epoch ≡ e) where
     epoch-is : old .working .epoch ≡ e
     epoch-is = rw at-slot same
 
-    rewritten-fine : (v : Value) → length v + 1 ≡ w → Fine n w t start l p ref.changed thread key v (rewritten wk tr n w t e s v)
+    rewritten-fine : (v : Value) → length v + 1 ≡ w → Fine sz start l p ref.altered thread key v (rewritten wk tr sz e s v)
     unfolding rewritten
     rewritten-fine v words =
         let a = value-wrote (g .working .sized) (lives .below) v words in
         let j = waiting-joins (g .notes) e s (lives .below) in
-        let x : entry (header wk s .kind) (header wk s .epoch) (header wk s .uid) (keyAt wk n w s) v ≡ steps.revalued v (old .working) =
-        rw (at-slot, key-contents wk n w s (omega (arith, g .working .sized .sizes .width-lo))) in
-        let r : retiredIn tr t s ≡ old .retired = rw at-slot in
+        let x : entry (header wk s .kind) (header wk s .epoch) (header wk s .uid) (keyAt wk (sz .n) (sz .w) s) v ≡ steps.revalued v (old .working) =
+        rw (at-slot, key-contents wk (sz .n) (sz .w) s (omega (arith, g .working .sized .sizes .width-lo))) in
+        let r : retiredIn sz tr s ≡ old .retired = rw at-slot in
         record {
-          good = good-change g (wrote-image a (g .working)) (joined-notes j) (j .uid) (row-epoch g ref.changed thread key v within)
+          good = good-change g (wrote-image a (g .working)) (joined-notes j) (j .uid) (row-epoch g ref.altered thread key v within)
               (rw (lives .name) at (set-inv (g .inv) (in-place-as x r current (change-joins g a j (lives .below)) epoch-is (change-put g a j (lives .below)))));
         }
 
-    turned-fine : Fine n w t start l p ref.deleted thread key [] (turned wk tr n t e s)
+    turned-fine : Fine sz start l p ref.dropped thread key [] (turned wk tr n t e s)
     unfolding turned
     turned-fine =
         let a = header-wrote (g .working .sized) (lives .below) (antiHeader e (header wk s .uid)) in
         let j = waiting-joins (g .notes) e s (lives .below) in
-        let x : entry 3 e (header wk s .uid) (getD (contents wk n w s) 0 0) (drop 1 (contents wk n w s)) ≡ steps.turned (old .working) = rw (at-slot, same) in
-        let r : retiredIn tr t s ≡ old .retired = rw at-slot in
+        let x : entry 3 e (header wk s .uid) (getD (contents wk (sz .n) (sz .w) s) 0 0) (drop 1 (contents wk (sz .n) (sz .w) s)) ≡ steps.turned (old .working) = rw (at-slot, same) in
+        let r : retiredIn sz tr s ≡ old .retired = rw at-slot in
         record {
-          good = good-change g (wrote-image a (g .working)) (joined-notes j) (j .uid) (row-epoch g ref.deleted thread key [] within)
+          good = good-change g (wrote-image a (g .working)) (joined-notes j) (j .uid) (row-epoch g ref.dropped thread key [] within)
               (rw (lives .name) at (turn-inv [] (g .inv) (in-place-as x r current (change-joins g a j (lives .below)) epoch-is (change-put g a j (lives .below)))));
         }
 
-    freed-fine : header wk s .kind ≡ 1 → Fine n w t start l p ref.deleted thread key [] (freedAt wk tr n t e s)
+    freed-fine : header wk s .kind ≡ 1 → Fine sz start l p ref.dropped thread key [] (freedAt wk tr n t e s)
     unfolding freedAt
     freed-fine alloc =
         let a = header-wrote (g .working .sized) (lives .below) freeHeader in
         let j = joined-joins (g .notes) e s (lives .below) in
-        let x : entry 0 0 0 (getD (contents wk n w s) 0 0) (drop 1 (contents wk n w s)) ≡ steps.freed (old .working) = rw at-slot in
+        let x : entry 0 0 0 (getD (contents wk (sz .n) (sz .w) s) 0 0) (drop 1 (contents wk (sz .n) (sz .w) s)) ≡ steps.freed (old .working) = rw at-slot in
         let one : old .working .kind ≡ 1 = rw at-slot alloc in
         record {
-          good = good-change g (wrote-image a (g .working)) (joined-notes j) (j .uid) (row-epoch g ref.deleted thread key [] within)
+          good = good-change g (wrote-image a (g .working)) (joined-notes j) (j .uid) (row-epoch g ref.dropped thread key [] within)
               (rw (lives .name) at (unmake-inv [] (g .inv) record {
                 change = in-place-as x (sym (lives .current)) current (change-joins g a j (lives .below)) epoch-is (change-put g a j (lives .below));
                 alloc = one;
@@ -109,11 +109,11 @@ module _ {n w t : ℕ} {start : Jobs} {wk l tr : List ℕ} {p : Plain} (thread k
     older : header wk s .epoch < e
     older = let q : header wk s .epoch ≤ e = rw at-slot at (no-later-of g newest s (lives .payload .0) (lives .name)) in omega arith
 
-    updated-fine : lastTaken tr < n → (v : Value) → length v + 1 ≡ w → Fine n w t start l p ref.changed thread key v (updated wk tr n w t e s key v)
+    updated-fine : lastTaken tr < sz .n → (v : Value) → length v + 1 ≡ w → Fine sz start l p ref.altered thread key v (updated wk tr sz e s key v)
     unfolding updated
     updated-fine h v words = super-fine thread key s (steps.updates v) g within begun words lives older 2 h
 
-    covered-fine : lastTaken tr < n → Fine n w t start l p ref.deleted thread key [] (covered wk tr n w t e s key)
+    covered-fine : lastTaken tr < sz .n → Fine sz start l p ref.dropped thread key [] (covered wk tr sz e s key)
     unfolding covered
     covered-fine h =
         let zeros : Value = replicate (w - 1) 0 in
@@ -121,10 +121,10 @@ module _ {n w t : ℕ} {start : Jobs} {wk l tr : List ℕ} {p : Plain} (thread k
         super-fine thread key s (steps.removes zeros []) g within begun words lives older 1 h
 
 -- ---- by what the look-up finds: 9 and 10
-module _ {n w t : ℕ} {start : Jobs} {wk l tr : List ℕ} {p : Plain} (thread key : ℕ) (g : Good n w t start (store wk l tr) p)
-    (within : thread < t) (begun : openEpoch tr thread ≢ 0) (last : lastTaken tr < n) where
-  set-at-fine : (s : ℕ) (v : Value) → length v + 1 ≡ w → Holding wk tr n w t key (openEpoch tr thread) s
-      → Fine n w t start l p ref.changed thread key v (setAt wk tr n w t (openEpoch tr thread) s key v)
+module _ {sz : Sizes} {start : Jobs} {wk l tr : List ℕ} {p : Plain} (thread key : ℕ) (g : Good sz start (store wk l tr) p)
+    (within : thread < sz .t) (begun : openEpoch tr thread ≢ 0) (last : lastTaken tr < sz .n) where
+  set-at-fine : (s : ℕ) (v : Value) → length v + 1 ≡ w → Holding wk tr sz key (openEpoch tr thread) s
+      → Fine sz start l p ref.altered thread key v (setAt wk tr sz (openEpoch tr thread) s key v)
   unfolding setAt
   set-at-fine s v words h =
       let lives = live-of g (h .found) in
@@ -133,17 +133,17 @@ module _ {n w t : ℕ} {start : Jobs} {wk l tr : List ℕ} {p : Plain} (thread k
       (λ (a : eqb (header wk s .epoch) (openEpoch tr thread) ≡ false). rw a (updated-fine thread key s g within begun lives (h .newest) (eqb-false _ _ a) last v words))
       (cases (eqb (header wk s .epoch) (openEpoch tr thread)))
 
-  pub set-opened-fine : (v : Value) → length v + 1 ≡ w → Fine n w t start l p ref.changed thread key v (setOpened wk tr n w t (openEpoch tr thread) key v)
+  pub set-opened-fine : (v : Value) → length v + 1 ≡ w → Fine sz start l p ref.altered thread key v (setOpened wk tr sz (openEpoch tr thread) key v)
   unfolding setOpened
-  set-opened-fine v words = go (lookup wk tr n w t key (openEpoch tr thread)) refl
+  set-opened-fine v words = go (lookup wk tr sz key (openEpoch tr thread)) refl
     where
-      go : (k : Lookup) → lookup wk tr n w t key (openEpoch tr thread) ≡ k → Fine n w t start l p ref.changed thread key v (setLooked k wk tr n w t (openEpoch tr thread) key v)
+      go : (k : Lookup) → lookup wk tr sz key (openEpoch tr thread) ≡ k → Fine sz start l p ref.altered thread key v (setLooked k wk tr sz (openEpoch tr thread) key v)
       go look.Newer q = fine-refused g Newer
-      go (look.Live s) q = set-at-fine s v words (live-says wk tr n w t key (openEpoch tr thread) q)
+      go (look.Live s) q = set-at-fine s v words (live-says wk tr sz key (openEpoch tr thread) q)
       go look.Absent q = fine-refused g NoJob
 
-  delete-at-fine : (s : ℕ) → Holding wk tr n w t key (openEpoch tr thread) s
-      → Fine n w t start l p ref.deleted thread key [] (deleteAt wk tr n w t (openEpoch tr thread) s key)
+  delete-at-fine : (s : ℕ) → Holding wk tr sz key (openEpoch tr thread) s
+      → Fine sz start l p ref.dropped thread key [] (deleteAt wk tr sz (openEpoch tr thread) s key)
   unfolding deleteAt
   delete-at-fine s h =
       let lives = live-of g (h .found) in
@@ -156,26 +156,26 @@ module _ {n w t : ℕ} {start : Jobs} {wk l tr : List ℕ} {p : Plain} (thread k
       (λ (a : eqb (header wk s .epoch) (openEpoch tr thread) ≡ false). rw a (covered-fine thread key s g within begun lives (h .newest) (eqb-false _ _ a) last))
       (cases (eqb (header wk s .epoch) (openEpoch tr thread)))
 
-  pub delete-opened-fine : Fine n w t start l p ref.deleted thread key [] (deleteOpened wk tr n w t (openEpoch tr thread) key)
+  pub delete-opened-fine : Fine sz start l p ref.dropped thread key [] (deleteOpened wk tr sz (openEpoch tr thread) key)
   unfolding deleteOpened
-  delete-opened-fine = go (lookup wk tr n w t key (openEpoch tr thread)) refl
+  delete-opened-fine = go (lookup wk tr sz key (openEpoch tr thread)) refl
     where
-      go : (k : Lookup) → lookup wk tr n w t key (openEpoch tr thread) ≡ k → Fine n w t start l p ref.deleted thread key [] (deleteLooked k wk tr n w t (openEpoch tr thread) key)
+      go : (k : Lookup) → lookup wk tr sz key (openEpoch tr thread) ≡ k → Fine sz start l p ref.dropped thread key [] (deleteLooked k wk tr sz (openEpoch tr thread) key)
       go look.Newer q = fine-refused g Newer
-      go (look.Live s) q = delete-at-fine s (live-says wk tr n w t key (openEpoch tr thread) q)
+      go (look.Live s) q = delete-at-fine s (live-says wk tr sz key (openEpoch tr thread) q)
       go look.Absent q = fine-refused g NoJob
 
 -- ---- the calls
-module _ {n w t : ℕ} {start : Jobs} {st : Store} {p : Plain} (thread key : ℕ) (g : Good n w t start st p) where
-  pub set-good : (v : Value) → Good n w t start (set st thread key v .store) (toldChange (set st thread key v .reply) ref.changed thread key v p)
+module _ {sz : Sizes} {start : Jobs} {st : Store} {p : Plain} (thread key : ℕ) (g : Good sz start st p) where
+  pub set-good : (v : Value) → Good sz start (set st thread key v .store) (toldChange (set st thread key v .reply) ref.altered thread key v p)
   unfolding set replaced
   set-good v =
-      fine-call (λ wk tr n w t. replaced wk tr n w t thread key v) g
+      fine-call (λ wk tr sz. replaced wk tr sz thread key v) g
       (λ a. operating-fine g (badJob w key (length v)) _
       (λ h b c. set-opened-fine thread key g h b (last-below g a) v (bad-words w key (length v) (g .working .sized .sizes .width-lo) c)))
 
-  pub delete-good : Good n w t start (delete st thread key .store) (toldChange (delete st thread key .reply) ref.deleted thread key [] p)
+  pub delete-good : Good sz start (delete st thread key .store) (toldChange (delete st thread key .reply) ref.dropped thread key [] p)
   unfolding delete removed
   delete-good =
-      fine-call (λ wk tr n w t. removed wk tr n w t thread key) g
+      fine-call (λ wk tr sz. removed wk tr sz thread key) g
       (λ a. operating-fine g (eqb key 0) _ (λ h b c. delete-opened-fine thread key g h b (last-below g a)))

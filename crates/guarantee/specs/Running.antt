@@ -24,9 +24,9 @@ use Rattle.guarantee.specs.Replacing.{set-good, delete-good}
 use Rattle.guarantee.specs.Advancing.{advance-good}
 use Rattle.guarantee.specs.Flushing.{write-back-good}
 
-module _ (n w t : ℕ) (start : Jobs) where
+module _ (sz : Sizes) (start : Jobs) where
   abbrev pub GoodAt : Moment → Type 0
-  GoodAt m = Good n w t start (m .store) (m .plain)
+  GoodAt m = Good sz start (m .store) (m .plain)
 
   pub record GoodTrace (tr : Trace) : Type 0 where
     pub passed : (m : Moment) → List·Memᴰ m (tr .passed) → GoodAt m
@@ -91,7 +91,7 @@ module _ (n w t : ℕ) (start : Jobs) where
       good-then (one (advanced m)) (onward (advance (m .store) .reply) on tick) (good-one (advanced m) (advanced-good m g))
       (go (advance (m .store) .reply) (advance-good g))
     where
-      go : (r : Advance) → Good n w t start (advance (m .store) .store) (toldAdvance r (m .plain))
+      go : (r : Advance) → Good sz start (advance (m .store) .store) (toldAdvance r (m .plain))
           → GoodTrace (onward r on tick (moment (advance (m .store) .store) (toldAdvance r (m .plain))))
       go WentOn i = a _ i h
       go Ticked i = b _ i (λ e j. omega (arith, h e j))
@@ -142,5 +142,5 @@ moments-good {st} s calls m i =
     let all = run-good n w (threads st) jobs calls (startOf st) (start-good s) in
     ⊎-elim (λ q. at-start q (start-good s)) (λ j. all .passed m j) (List·Memᴰ·cases-cons i)
   where
-    at-start : {n w t : ℕ} {jobs : Jobs} → m ≡ startOf st → Good n w t jobs st (startOf st .plain) → Good n w t jobs (m .store) (m .plain)
+    at-start : {sz : Sizes} {jobs : Jobs} → m ≡ startOf st → Good sz jobs st (startOf st .plain) → Good sz jobs (m .store) (m .plain)
     at-start q g = rw q g

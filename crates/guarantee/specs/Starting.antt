@@ -29,7 +29,7 @@ use Rattle.transient.specs.Layout.{nextUidOf, placePhase, placeSlot, openEpoch,
 use Rattle.transient.specs.Code.{threads-room}
 use Rattle.survival.specs.Survivors.{kept, wins, survives, survivor}
 use Rattle.acceptance.specs.Accept.{blankHeader, proper, nameless, sameVersion, versionBelow, keyBelow, headCheck, slotsCheck, imageCheck}
-use Rattle.changes.specs.Format.{freshImage, formatFits, freshStore, format}
+use Rattle.format.specs.Format.{freshImage, formatFits, freshStore, format}
 use Rattle.recovery.specs.declared.Recovery.the-variants.{WentOn, Done}
 use Rattle.recovery.specs.Recover.{nextFreed, uidOf, nextUid, lengthsFit, recoverEntryCheck, recoverCheck, finished, judged, recover}
 use Rattle.recovery.specs.Steps.{filledAt, done-survivors, survivor-named, survivors-apart}
@@ -100,27 +100,27 @@ module _ {l tr : List ℕ} (z : Clean l tr) where
   ok : Accepts l
   ok = accepted-says l (z .accepted)
 
-  proper-at : (s : ℕ) → s < n → Proper c (entryOf (header l s) (contents l n w s))
-  proper-at s h = proper-says c (header l s) (contents l n w s) (ok .sound .all-proper s h)
+  proper-at : (s : ℕ) → s < sz .n → Proper c (entryOf (header l s) (contents l (sz .n) (sz .w) s))
+  proper-at s h = proper-says c (header l s) (contents l (sz .n) (sz .w) s) (ok .sound .all-proper s h)
 
   some-width : 1 ≤ w
   some-width = omega (arith, ok .sized .sizes .width-lo)
 
-  is-at : (s : ℕ) → s < n → view st n w t c s ≡ slotOf st n w t c s
-  is-at = view-in st n w t c
+  is-at : (s : ℕ) → s < sz .n → view st sz c s ≡ slotOf st sz c s
+  is-at = view-in st sz c
 
-  wins-at : (s : ℕ) → s < n → survivor l n s ≡ true → Survives (c - 2) table s
-  wins-at = survives-at st n w t c (c - 2) (omega (arith, ok .clock-lo)) (λ m h. proper-at m h .kind-hi)
+  wins-at : (s : ℕ) → s < sz .n → survivor l n s ≡ true → Survives (c - 2) table s
+  wins-at = survives-at st sz c (c - 2) (omega (arith, ok .clock-lo)) (λ m h. proper-at m h .kind-hi)
 
-  name-at : (s : ℕ) → s < n → table s .working .name ≡ keyAt l n w s
-  name-at s h = rw (is-at s h) (sym (key-contents l n w s some-width))
+  name-at : (s : ℕ) → s < sz .n → table s .working .name ≡ keyAt l (sz .n) (sz .w) s
+  name-at s h = rw (is-at s h) (sym (key-contents l (sz .n) (sz .w) s some-width))
 
-  value-at : (s : ℕ) → s < n → table s .working .value ≡ valueAt l n w s
-  value-at s h = rw (is-at s h) (sym (value-contents l n w s some-width))
+  value-at : (s : ℕ) → s < sz .n → table s .working .value ≡ valueAt l (sz .n) (sz .w) s
+  value-at s h = rw (is-at s h) (sym (value-contents l (sz .n) (sz .w) s some-width))
 
   -- a slot with something in it survives
   record Lives (s : ℕ) : Type 0 where
-    below : s < n
+    below : s < sz .n
     survives : survivor l n s ≡ true
     wins : Survives (c - 2) table s
 
@@ -129,7 +129,7 @@ module _ {l tr : List ℕ} (z : Clean l tr) where
     | yes h ↦
         let v = z .just s h (says-filled (header l s .kind) (rw (is-at s h) at f) (proper-at s h .kind-hi)) in
         record { below = h; survives = v; wins = wins-at s h v }
-    | no h ↦ let q : 1 ≤ 0 = rw (view-out st n w t c s (omega arith)) at f in absurd (omega arith)
+    | no h ↦ let q : 1 ≤ 0 = rw (view-out st sz c s (omega arith)) at f in absurd (omega arith)
   ]
 
   -- the bounds of a header: it is free, or it survives
@@ -138,7 +138,7 @@ module _ {l tr : List ℕ} (z : Clean l tr) where
     old : header l s .epoch + 2 ≤ c
     uid-below : header l s .uid < nextUidOf tr
 
-  old-at : (s : ℕ) → s < n → Old s
+  old-at : (s : ℕ) → s < sz .n → Old s
   old-at s h =
       let p = proper-at s h in
       elim (decLt 0 (header l s .kind)) [
@@ -152,7 +152,7 @@ module _ {l tr : List ℕ} (z : Clean l tr) where
       ]
 
   -- each slot of the table is settled, and so is what lies beyond
-  settled-in : (s : ℕ) → s < n → Settled c (nextUidOf tr) (slotOf st n w t c s)
+  settled-in : (s : ℕ) → s < sz .n → Settled c (nextUidOf tr) (slotOf st sz c s)
   settled-in s h =
       let o = old-at s h in
       record {
@@ -163,7 +163,7 @@ module _ {l tr : List ℕ} (z : Clean l tr) where
         old = o .old;
         uid-below = o .uid-below;
         named = λ f q.
-            survivor-named l (z .accepted) s h (filled-lives s (rw (is-at s h) f) .survives) (key-contents l n w s some-width ∙ q);
+            survivor-named l (z .accepted) s h (filled-lives s (rw (is-at s h) f) .survives) (key-contents l (sz .n) (sz .w) s some-width ∙ q);
         not-retired = z .zeros (4 + t + s) (omega arith);
       }
 
@@ -183,7 +183,7 @@ module _ {l tr : List ℕ} (z : Clean l tr) where
   settled-at : (s : ℕ) → Settled c (nextUidOf tr) (table s)
   settled-at s = elim (decLt s n) [
     | yes h ↦ rw (is-at s h) (settled-in s h)
-    | no h ↦ rw (view-out st n w t c s (omega arith)) settled-out
+    | no h ↦ rw (view-out st sz c s (omega arith)) settled-out
   ]
 
   -- two filled slots have two uids ..
@@ -236,12 +236,12 @@ module _ {l tr : List ℕ} (z : Clean l tr) where
   )
 
   -- no advance is underway
-  rests : progress n (placePhase tr) (placeSlot tr) ≡ atRest
+  rests : progress (sz .n) (placePhase tr) (placeSlot tr) ≡ atRest
   unfolding progress
   rests = rw (z .zeros 2 (omega arith))
 
   -- together, a start
-  starts : Start (stateOf n w t (jobsOf l) st (startOf st .plain))
+  starts : Start (stateOf sz (jobsOf l) st (startOf st .plain))
   starts =
       record {
         clock-lo = ok .clock-lo;
@@ -257,16 +257,16 @@ module _ {l tr : List ℕ} (z : Clean l tr) where
       }
 
   -- the notes have the length of n slots and t threads
-  notes-fit : Notes tr n t
+  notes-fit : Notes tr sz
   unfolding threadsOk
   notes-fit =
       let room = leb-true 1 t (and-left (leb 1 t) _ (z .threads)) in
       record { long = omega arith; slots-hi = ok .sized .sizes .slots-hi; threads-hi = leb-true t 16 (and-right (leb 1 t) _ (z .threads)) }
 
   -- such a store has the invariant
-  clean-good : Good n w t (jobsOf l) st (startOf st .plain)
+  clean-good : Good sz (jobsOf l) st (startOf st .plain)
   clean-good =
-      let i : Image n w c l = record { sized = ok .sized; slots-is = refl; width-is = refl; clock-is = refl } in
+      let i : Image sz c l = record { sized = ok .sized; slots-is = refl; width-is = refl; clock-is = refl } in
       let none : (thread : ℕ) → openEpoch tr thread ≡ 0 = λ thread. z .zeros (4 + thread) (omega arith) in
       record {
         clock-hi = ok .clock-hi;

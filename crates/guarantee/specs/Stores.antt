@@ -10,13 +10,13 @@ use Rattle.image.specs.declared.header.Header.{Header}
 use Rattle.image.specs.Layout.{setHeader, setContents, setClock, slotsOf, widthOf, clockOf}
 use Rattle.transient.specs.Store.{Store, store}
 use Rattle.transient.specs.Entry.{threads, entryCheck}
-use Rattle.changes.specs.Changed.{Changed, onStore}
+use Rattle.transient.specs.Calls.{Changed, onStore}
 use Rattle.changes.specs.Open as opens
-use Rattle.changes.specs.Open.{begin, end}
-use Rattle.changes.specs.New.{made, new}
-use Rattle.changes.specs.Set.{replaced, set}
+use Rattle.begin_end.specs.Operation.{begin, end}
+use Rattle.job_new.specs.New.{made, new}
+use Rattle.job_set.specs.Set.{replaced, set}
 use Rattle.changes.specs.Delete as deletion
-use Rattle.changes.specs.Delete.{delete}
+use Rattle.job_delete.specs.Delete.{delete}
 use Rattle.epochs.specs.declared.Place.{Place}
 use Rattle.epochs.specs.declared.Advance.{Advance}
 use Rattle.epochs.specs.declared.Advance.the-variants.{WentOn, Ticked, Declined}
@@ -31,12 +31,12 @@ use Rattle.guarantee.specs.Trace.{Line, Call, begins, ends, news, sets, 
 -- l′ is l, or l with one line stored
 pub data OneLine (l : List ℕ) : List ℕ → Type 0 where
   none : OneLine l l
-  header : (s : ℕ) (h : Header) → OneLine l (setHeader l s h)
+  header : (s : ℕ) (h : Header) → OneLine l (storeLine l (headerLine s h))
   contents : (n w s : ℕ) (line : List ℕ) → OneLine l (setContents l n w s line)
-  clock : (c : ℕ) → OneLine l (setClock l c)
+  clock : (c : ℕ) → OneLine l (storeLine l (clockLine c))
 
 -- ---- the calls
-module _ (wk l tr : List ℕ) (n w t c : ℕ) where
+module _ (wk l tr : List ℕ) (sz : Sizes) (c : ℕ) where
   line-one : (s : ℕ) → OneLine l (contentsLine wk l n w s)
   unfolding contentsLine
   line-one s = contents n w s _
@@ -53,8 +53,8 @@ module _ (wk l tr : List ℕ) (n w t c : ℕ) where
   unfolding reclaimed
   reclaim-one s = header s _
 
-  step-one : (p : Place) → OneLine l (step wk l tr n w t c p .persistent)
-  step-one = every-way (λ z. OneLine l (z .persistent)) wk l tr n w t c reclaim-one line-one head-one tick-one
+  step-one : (p : Place) → OneLine l (step wk l tr sz c p .persistent)
+  step-one = every-way (λ z. OneLine l (z .persistent)) wk l tr sz c reclaim-one line-one head-one tick-one
 
 -- "One advance call stores one lasting line."
 pub advance-one : (st : Store) → OneLine (st .persistent) (advance st .store .persistent)
@@ -124,11 +124,11 @@ syncing-chained (suc more) (suc ticks) lines m =
 
 through-chained : (c : Call) (m : Moment) → Chained m (through c m)
 unfolding through begun ended newed reset removed advanced lineBack begin end new set delete
-through-chained (begins thread) m = one-step (job-none (m .store) (λ wk tr n w t. opens.begun wk tr t thread))
-through-chained (ends thread) m = one-step (job-none (m .store) (λ wk tr n w t. opens.ended wk tr t thread))
-through-chained (news thread key v) m = one-step (job-none (m .store) (λ wk tr n w t. made wk tr n w t thread key v))
-through-chained (sets thread key v) m = one-step (job-none (m .store) (λ wk tr n w t. replaced wk tr n w t thread key v))
-through-chained (deletes thread key) m = one-step (job-none (m .store) (λ wk tr n w t. deletion.removed wk tr n w t thread key))
+through-chained (begins thread) m = one-step (job-none (m .store) (λ wk tr sz. opens.begun wk tr t thread))
+through-chained (ends thread) m = one-step (job-none (m .store) (λ wk tr sz. opens.ended wk tr t thread))
+through-chained (news thread key v) m = one-step (job-none (m .store) (λ wk tr sz. made wk tr sz thread key v))
+through-chained (sets thread key v) m = one-step (job-none (m .store) (λ wk tr sz. replaced wk tr sz thread key v))
+through-chained (deletes thread key) m = one-step (job-none (m .store) (λ wk tr sz. deletion.removed wk tr sz thread key))
 through-chained (reads thread key) m = one-step none
 through-chained advances m = one-step (advance-one (m .store))
 through-chained (syncs lines) m = go (syncCheck (m .store))

@@ -16,7 +16,7 @@ use Rattle.transient.specs.Layout.{lastTaken, nextUidOf, openEpoch, retiredIn, 
 use Rattle.transient.specs.Laws.{length-setRetired, word-setRetired, retired-same, notes-after}
 use Rattle.table.specs.Find.{room, freeAt}
 use Rattle.table.specs.Fill.{filledSlot, taken}
-use Rattle.changes.specs.Job.{superseded}
+use Rattle.jobs.specs.Job.{superseded}
 use Rattle.crash.specs.Table.{Put2}
 use Rattle.crash.specs.Reference.{Jobs, Act, Name, Value}
 use Rattle.crash.specs.Slots.{Slot, State, Inv}
@@ -31,34 +31,34 @@ use Rattle.guarantee.specs.Frame.{NotesKept, operation-of, change-joins,
 use Rattle.guarantee.specs.Lookups.{Lives, room-says, free-says}
 use Rattle.guarantee.specs.Changing.{Fine, fine-refused}
 
-module _ (tr : List ℕ) (n t s e : ℕ) (h : s < n) where
-  retired-waiting : (d m : ℕ) → isWaiting (setRetired tr t s e) n t d m ≡ isWaiting tr n t d m
-  retired-waiting d m = waiting-same-word tr (setRetired tr t s e) n t d m (word-setRetired tr t s e (waitingAt n t d m) (λ q. omega arith))
+module _ (tr : List ℕ) (n t s e : ℕ) (h : s < sz .n) where
+  retired-waiting : (d m : ℕ) → isWaiting sz (setRetired sz tr s e) d m ≡ isWaiting sz tr d m
+  retired-waiting d m = waiting-same-word tr (setRetired sz tr s e) n t d m (word-setRetired sz tr s e (waitingAt n t d m) (λ q. omega arith))
 
-  retired-other : (m : ℕ) → m ≢ s → retiredIn (setRetired tr t s e) t m ≡ retiredIn tr t m
-  retired-other m d = word-setRetired tr t s e (4 + t + m) (λ q. d (omega arith))
+  retired-other : (m : ℕ) → m ≢ s → retiredIn sz (setRetired sz tr s e) m ≡ retiredIn sz tr m
+  retired-other m d = word-setRetired sz tr s e (4 + t + m) (λ q. d (omega arith))
 
-module _ {n w t : ℕ} {start : Jobs} {st : Store} {p : Plain} (g : Good n w t start st p)
-    {wk′ tr′ : List ℕ} {e f s u : ℕ} {h : Header} {line : List ℕ} (a : Wrote (st .working) wk′ n w f h line) (j : Joined (st .transient) tr′ n t e f 0 u)
-    (k : f < n) (i : s < n) (apart : f ≢ s) where
+module _ {sz : Sizes} {start : Jobs} {st : Store} {p : Plain} (g : Good sz start st p)
+    {wk′ tr′ : List ℕ} {e f s u : ℕ} {h : Header} {line : List ℕ} (a : Wrote (st .working) wk′ sz f h line) (j : Joined (st .transient) tr′ n t e f 0 u)
+    (k : f < sz .n) (i : s < sz .n) (apart : f ≢ s) where
   abbrev nd : Store
-  nd = store wk′ (st .persistent) (setRetired tr′ t s e)
+  nd = store wk′ (st .persistent) (setRetired sz tr′ s e)
 
   abbrev c : ℕ
   c = p .clock
 
-  notes′ : Notes tr′ n t
+  notes′ : Notes tr′ sz
   notes′ = notes-after (j .long) (g .notes)
 
-  first : slotOf nd n w t c f ≡ record { working = entryOf h line; persistent = view st n w t c f .persistent; retired = 0; now = flag (isWaiting tr′ n t c f); before = flag (isWaiting tr′ n t (c + 1) f) }
+  first : slotOf nd sz c f ≡ record { working = entryOf h line; persistent = view st sz c f .persistent; retired = 0; now = flag (isWaiting sz tr′ c f); before = flag (isWaiting sz tr′ (c + 1) f) }
   first =
-      rw (view-in st n w t c f k, a .header-here, a .line-here, retired-other tr′ n t s e i f apart, j .retired, retired-waiting tr′ n t s e i c f, retired-waiting tr′ n t s e i (c + 1) f)
+      rw (view-in st sz c f k, a .header-here, a .line-here, retired-other tr′ n t s e i f apart, j .retired, retired-waiting tr′ n t s e i c f, retired-waiting tr′ n t s e i (c + 1) f)
 
-  second : slotOf nd n w t c s ≡ retiring e (view st n w t c s)
+  second : slotOf nd sz c s ≡ retiring e (view st sz c s)
   second =
       let d : s ≢ f = λ q. apart (sym q) in
       rw (
-        view-in st n w t c s i,
+        view-in st sz c s i,
         a .header-there s i d,
         a .line-there s i d,
         retired-same notes′ s e i,
@@ -68,7 +68,7 @@ module _ {n w t : ℕ} {start : Jobs} {st : Store} {p : Plain} (g : Good n w t s
         joined-waiting j (c + 1) s k i d,
       )
 
-  rest : (m : ℕ) → m < n → m ≢ f → m ≢ s → slotOf nd n w t c m ≡ slotOf st n w t c m
+  rest : (m : ℕ) → m < sz .n → m ≢ f → m ≢ s → slotOf nd sz c m ≡ slotOf st sz c m
   rest m b d o =
       rw (
         a .header-there m b d,
@@ -81,22 +81,22 @@ module _ {n w t : ℕ} {start : Jobs} {st : Store} {p : Plain} (g : Good n w t s
         joined-waiting j (c + 1) m k b d,
       )
 
-  pub over-put : Put2 (view st n w t c) (view nd n w t c) f
-      (record { working = entryOf h line; persistent = view st n w t c f .persistent; retired = 0; now = flag (isWaiting tr′ n t c f); before = flag (isWaiting tr′ n t (c + 1) f) })
-      s (retiring e (view st n w t c s))
-  over-put = view-put2 st nd n w t c f s _ _ k i apart first second rest
+  pub over-put : Put2 (view st sz c) (view nd sz c) f
+      (record { working = entryOf h line; persistent = view st sz c f .persistent; retired = 0; now = flag (isWaiting sz tr′ c f); before = flag (isWaiting sz tr′ (c + 1) f) })
+      s (retiring e (view st sz c s))
+  over-put = view-put2 st nd sz c f s _ _ k i apart first second rest
 
-  pub over-notes : NotesKept (st .transient) (setRetired tr′ t s e) t
+  pub over-notes : NotesKept (st .transient) (setRetired sz tr′ s e) t
   over-notes =
       record {
-        long = length-setRetired tr′ t s e ∙ j .long;
-        opens = λ x b. word-setRetired tr′ t s e (4 + x) (λ q. omega arith) ∙ joined-open j x b;
-        phase = word-setRetired tr′ t s e 2 (λ q. omega arith) ∙ joined-phase j;
-        slot = word-setRetired tr′ t s e 3 (λ q. omega arith) ∙ joined-slot j;
+        long = length-setRetired sz tr′ s e ∙ j .long;
+        opens = λ x b. word-setRetired sz tr′ s e (4 + x) (λ q. omega arith) ∙ joined-open j x b;
+        phase = word-setRetired sz tr′ s e 2 (λ q. omega arith) ∙ joined-phase j;
+        slot = word-setRetired sz tr′ s e 3 (λ q. omega arith) ∙ joined-slot j;
       }
 
-  pub over-uid : nextUidOf (setRetired tr′ t s e) ≡ u
-  over-uid = word-setRetired tr′ t s e 1 (λ q. omega arith) ∙ j .uid
+  pub over-uid : nextUidOf (setRetired sz tr′ s e) ≡ u
+  over-uid = word-setRetired sz tr′ s e 1 (λ q. omega arith) ∙ j .uid
 
 -- the step with the uid and the name as the call has them
 over-as : {kind : ℕ} {act : Act} {e s r : ℕ} {v u : Value} {now before : ℕ} {st : State} {f : ℕ → Slot} {uid : ℕ} {k : Name} → Inv st
@@ -107,20 +107,20 @@ over-as : {kind : ℕ} {act : Act} {e s r : ℕ} {v u : Value} {now before : ℕ
 over-as i a b o c j free older put = rw b (over-inv i record { outcome = o; of = c; joins = j; free = free; older = older; put = rw (a, b) at put })
 
 -- ---- set by a new UPDATE, delete by a new DELETE
-module _ {n w t : ℕ} {start : Jobs} {wk l tr : List ℕ} {p : Plain} {kind : ℕ} {act : Act} {v u : Value} (thread key s : ℕ) (o : Outcome kind act v u)
-    (g : Good n w t start (store wk l tr) p) (within : thread < t) (begun : openEpoch tr thread ≢ 0) (words : length v + 1 ≡ w)
+module _ {sz : Sizes} {start : Jobs} {wk l tr : List ℕ} {p : Plain} {kind : ℕ} {act : Act} {v u : Value} (thread key s : ℕ) (o : Outcome kind act v u)
+    (g : Good sz start (store wk l tr) p) (within : thread < sz .t) (begun : openEpoch tr thread ≢ 0) (words : length v + 1 ≡ w)
     (lives : Lives g key s) (older : header wk s .epoch < openEpoch tr thread) where
   abbrev e : ℕ
   e = openEpoch tr thread
 
   abbrev old : Slot
-  old = view (store wk l tr) n w t (p .clock) s
+  old = view (store wk l tr) sz (p .clock) s
 
-  at-slot : old ≡ slotOf (store wk l tr) n w t (p .clock) s
-  at-slot = view-in (store wk l tr) n w t (p .clock) s (lives .below)
+  at-slot : old ≡ slotOf (store wk l tr) sz (p .clock) s
+  at-slot = view-in (store wk l tr) sz (p .clock) s (lives .below)
 
-  super-at : (f : ℕ) → f < n → freeAt wk f ≡ true
-      → Good n w t start (store (filledSlot wk n w f (headerOf kind e (header wk s .uid)) (key ∷ v)) l (setRetired (taken tr n t e f) t s e))
+  super-at : (f : ℕ) → f < sz .n → freeAt wk f ≡ true
+      → Good sz start (store (filledSlot wk n w f (headerOf kind e (header wk s .uid)) (key ∷ v)) l (setRetired sz (taken sz tr e f) s e))
       (record { clock = p .clock; operation = p .operation; row = p .row ++ (record { epoch = p .operation thread; act = act; name = key; value = u } ∷ []); ended = p .ended; durable = p .durable })
   super-at f h free =
       let a = filled-wrote (g .working .sized) h (headerOf kind e (header wk s .uid)) (key ∷ v) (omega (arith, words)) in
@@ -134,10 +134,10 @@ module _ {n w t : ℕ} {start : Jobs} {wk l tr : List ℕ} {p : Plain} {kind : �
       (over-as (g .inv) uid-is (sym (lives .name)) o (record { operation = operation-of g thread within begun; payload = lives .payload; current = lives .current })
       (change-joins g a j h) empty (omega (arith, epoch-is, older)) (over-put g a j h (lives .below) apart))
 
-  pub super-fine : (k : ℕ) → lastTaken tr < n
-      → Fine n w t start l p act thread key u (superseded (room wk n (lastTaken tr) k) wk tr n w t e s (headerOf kind e (header wk s .uid)) (key ∷ v))
+  pub super-fine : (k : ℕ) → lastTaken tr < sz .n
+      → Fine sz start l p act thread key u (superseded (room wk n (lastTaken tr) k) wk tr sz e s (headerOf kind e (header wk s .uid)) (key ∷ v))
   super-fine k h = go (room wk n (lastTaken tr) k) refl
     where
-      go : (f : Found) → room wk n (lastTaken tr) k ≡ f → Fine n w t start l p act thread key u (superseded f wk tr n w t e s (headerOf kind e (header wk s .uid)) (key ∷ v))
+      go : (f : Found) → room wk n (lastTaken tr) k ≡ f → Fine sz start l p act thread key u (superseded f wk tr sz e s (headerOf kind e (header wk s .uid)) (key ∷ v))
       go (At f) q = let b = room-says wk n (lastTaken tr) k f h q in record { good = super-at f (b .0) (b .1) }
       go Nothing q = fine-refused g Full

@@ -25,13 +25,13 @@ entryOf h line = entry (h .kind) (h .epoch) (h .uid) (getD line 0 0) (drop 1 lin
 
 -- `before` is the list of c − 1, which is kept where that of c + 1 will be
 abbrev pub slotOf : Store → ℕ → ℕ → ℕ → ℕ → ℕ → Slot
-slotOf st n w t c s =
+slotOf st sz c s =
     record {
-      working = entryOf (header (st .working) s) (contents (st .working) n w s);
-      persistent = entryOf (header (st .persistent) s) (contents (st .persistent) n w s);
-      retired = retiredIn (st .transient) t s;
-      now = flag (isWaiting (st .transient) n t c s);
-      before = flag (isWaiting (st .transient) n t (c + 1) s);
+      working = entryOf (header (st .working) s) (contents (st .working) (sz .n) (sz .w) s);
+      persistent = entryOf (header (st .persistent) s) (contents (st .persistent) (sz .n) (sz .w) s);
+      retired = retiredIn sz (st .transient) s;
+      now = flag (isWaiting sz (st .transient) c s);
+      before = flag (isWaiting sz (st .transient) (c + 1) s);
     }
 
 abbrev pub noSlot : Slot
@@ -39,51 +39,51 @@ noSlot = record { working = entry 0 0 0 0 []; persistent = entry 0 0 0 0 []; ret
 
 -- slots out of range are free
 unfoldable pub view : Store → ℕ → ℕ → ℕ → ℕ → ℕ → Slot
-view st n w t c s = cond (ltb s n) (slotOf st n w t c s) noSlot
+view st sz c s = cond (ltb s n) (slotOf st sz c s) noSlot
 
 -- how far the advance has come, by the place in the notes
 unfoldable pub progress : ℕ → ℕ → ℕ → Place
-progress n phase slot =
+progress (sz .n) phase slot =
     record {
       looked = cond (eqb phase 1) slot (cond (leb 2 phase && leb phase 4) n 0);
       flushed = cond (eqb phase 2) slot (cond (eqb phase 3) slot (cond (eqb phase 4) n 0));
       half = cond (eqb phase 3) 1 0;
     }
 
-module _ (st : Store) (n w t c : ℕ) where
-  pub view-in : (s : ℕ) → s < n → view st n w t c s ≡ slotOf st n w t c s
+module _ (st : Store) (sz : Sizes) (c : ℕ) where
+  pub view-in : (s : ℕ) → s < sz .n → view st sz c s ≡ slotOf st sz c s
   unfolding view
   view-in s h = rw (lt-ltb s n h)
 
-  pub view-out : (s : ℕ) → n ≤ s → view st n w t c s ≡ noSlot
+  pub view-out : (s : ℕ) → sz .n ≤ s → view st sz c s ≡ noSlot
   unfolding view
   view-out s h = rw (le-ltb s n h)
 
 -- ---- from slots to tables
-module _ (a b : Store) (n w t c : ℕ) where
+module _ (a b : Store) (sz : Sizes) (c : ℕ) where
   -- b holds in slot m what a holds there
   abbrev pub Alike : ℕ → Type 0
-  Alike m = slotOf b n w t c m ≡ slotOf a n w t c m
+  Alike m = slotOf b sz c m ≡ slotOf a sz c m
 
-  pub same-view : (m : ℕ) → (m < n → Alike m) → view b n w t c m ≡ view a n w t c m
+  pub same-view : (m : ℕ) → (m < sz .n → Alike m) → view b sz c m ≡ view a sz c m
   unfolding view
   same-view m h = elim (decLt m n) [
     | yes q ↦ rw (lt-ltb m n q) (h q)
     | no q ↦ rw (le-ltb m n (omega arith))
   ]
 
-  pub view-put : (s : ℕ) (x : Slot) → s < n → slotOf b n w t c s ≡ x → ((m : ℕ) → m < n → m ≢ s → Alike m)
-      → Put (view a n w t c) (view b n w t c) s x
+  pub view-put : (s : ℕ) (x : Slot) → s < sz .n → slotOf b sz c s ≡ x → ((m : ℕ) → m < sz .n → m ≢ s → Alike m)
+      → Put (view a sz c) (view b sz c) s x
   view-put s x h here there =
-      record { here = rw (view-in b n w t c s h) here; there = λ m d. same-view m (λ q. there m q d) }
+      record { here = rw (view-in b sz c s h) here; there = λ m d. same-view m (λ q. there m q d) }
 
-  pub view-put2 : (s r : ℕ) (x y : Slot) → s < n → r < n → s ≢ r → slotOf b n w t c s ≡ x → slotOf b n w t c r ≡ y
-      → ((m : ℕ) → m < n → m ≢ s → m ≢ r → Alike m)
-      → Put2 (view a n w t c) (view b n w t c) s x r y
+  pub view-put2 : (s r : ℕ) (x y : Slot) → s < sz .n → r < sz .n → s ≢ r → slotOf b sz c s ≡ x → slotOf b sz c r ≡ y
+      → ((m : ℕ) → m < sz .n → m ≢ s → m ≢ r → Alike m)
+      → Put2 (view a sz c) (view b sz c) s x r y
   view-put2 s r x y h k d here there rest =
       record {
         apart = d;
-        first = rw (view-in b n w t c s h) here;
-        second = rw (view-in b n w t c r k) there;
+        first = rw (view-in b sz c s h) here;
+        second = rw (view-in b sz c r k) there;
         rest = λ m p q. same-view m (λ z. rest m z p q);
       }

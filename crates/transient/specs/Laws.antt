@@ -1,19 +1,19 @@
 -- Get/set laws of the notes, by name: what each writer leaves in its own note, and that the other notes stay.
-use Prim.Native.Nat.{ℕ, _+_, _%_, _≤_, _<_}
+use Prim.Native.Nat.{ℕ, _+_, _-_, _%_, _≤_, _<_}
 use mathlib.Core.Path.{_≡_, _∙_, ap}
 use mathlib.Core.Logic.{_≢_, _⊎_, inl, inr, ⊎-elim}
 use mathlib.Core.Bool.{true, false}
 use mathlib.Core.List.{List}
-use lib.ListN.{length, getD, set, replicate, length-set, getD-replicate}
+use lib.ListN.{length, getD, set, replicate, length-set, length-replicate, getD-replicate, List·getD-eq-default}
 use lib.Seq.{getD-set-same, getD-set-other}
 use lib.Dec.{eqb}
 use borrow.Author.Tests.{eq-eqb, ne-eqb, eqb-true, eqb-false}
 use native.Mathlib.Omega.{arith}
-use native.Mathlib.Decide.{ℕ-discrete}
+use native.Mathlib.Decide.{ℕ-discrete, decLt}
 use Rattle.search.specs.Bools.{cases}
 use Rattle.image.specs.Laws.{length-stored, stored-outside, stored-inside}
 use Rattle.transient.specs.declared.sizes.Sizes.{Sizes}
-use Rattle.transient.specs.Layout.{lastAt, nextUidAt, phaseAt, placeAt, headWords, openAt, retiredAt, listBase, waitingAt, nextUidOf, placePhase, placeSlot, openEpoch, retiredIn, isWaiting, setLast, setNextUid, setOpen, setRetired, setWaiting, setPlace, emptied}
+use Rattle.transient.specs.Layout.{slotsAt, lastAt, nextUidAt, phaseAt, placeAt, headWords, openAt, retiredAt, listBase, waitingAt, nextUidOf, placePhase, placeSlot, openEpoch, retiredIn, isWaiting, setLast, setNextUid, setOpen, setRetired, setWaiting, setPlace, emptied, blank}
 use Rattle.transient.specs.Requires.{Notes}
 
 -- ---- the two lists
@@ -65,27 +65,27 @@ unfolding isWaiting
 waiting-again z tr e m = rw (base-again (z .n) e)
 
 -- ---- a frame: all words but the k from `at` on stay
-pub record Only (tr tr′ : List ℕ) (at k : ℕ) : Type 0 where
-  pub long : length tr′ ≡ length tr
-  pub words : (j : ℕ) → (j < at) ⊎ (at + k ≤ j) → getD tr′ j 0 ≡ getD tr j 0
+record Only (tr tr′ : List ℕ) (at k : ℕ) : Type 0 where
+  long : length tr′ ≡ length tr
+  words : (j : ℕ) → (j < at) ⊎ (at + k ≤ j) → getD tr′ j 0 ≡ getD tr j 0
 
 one-word : (tr : List ℕ) (i v : ℕ) → Only tr (set tr i v) i 1
 one-word tr i v = record { long = length-set tr i v; words = λ j o. getD-set-other tr i j v 0 (λ q. ⊎-elim (λ h. omega arith) (λ h. omega arith) o) }
 
 module _ (tr : List ℕ) where
-  pub last-only : (s : ℕ) → Only tr (setLast tr s) lastAt 1
+  last-only : (s : ℕ) → Only tr (setLast tr s) lastAt 1
   unfolding setLast
   last-only s = one-word tr lastAt s
 
-  pub uid-only : (u : ℕ) → Only tr (setNextUid tr u) nextUidAt 1
+  uid-only : (u : ℕ) → Only tr (setNextUid tr u) nextUidAt 1
   unfolding setNextUid
   uid-only u = one-word tr nextUidAt u
 
-  pub open-only : (thread e : ℕ) → Only tr (setOpen tr thread e) (openAt thread) 1
+  open-only : (thread e : ℕ) → Only tr (setOpen tr thread e) (openAt thread) 1
   unfolding setOpen
   open-only thread e = one-word tr (openAt thread) e
 
-  pub place-only : (phase slot : ℕ) → Only tr (setPlace tr phase slot) phaseAt 2
+  place-only : (phase slot : ℕ) → Only tr (setPlace tr phase slot) phaseAt 2
   unfolding setPlace
   place-only phase slot =
       let a = one-word tr phaseAt phase in
@@ -96,15 +96,15 @@ module _ (tr : List ℕ) where
       }
 
   module _ (z : Sizes) where
-    pub retired-only : (s e : ℕ) → Only tr (setRetired z tr s e) (retiredAt z s) 1
+    retired-only : (s e : ℕ) → Only tr (setRetired z tr s e) (retiredAt z s) 1
     unfolding setRetired
     retired-only s e = one-word tr (retiredAt z s) e
 
-    pub waiting-only : (e s : ℕ) → Only tr (setWaiting z tr e s) (waitingAt z e s) 1
+    waiting-only : (e s : ℕ) → Only tr (setWaiting z tr e s) (waitingAt z e s) 1
     unfolding setWaiting
     waiting-only e s = one-word tr (waitingAt z e s) 1
 
-    pub list-only : (e : ℕ) → Only tr (emptied z tr e) (waitingAt z e 0) (z .n)
+    list-only : (e : ℕ) → Only tr (emptied z tr e) (waitingAt z e 0) (z .n)
     unfolding emptied
     list-only e =
         record {
@@ -134,7 +134,7 @@ slot-then x y = record { retired = y .retired ∙ x .retired; waiting = λ d. y 
 
 module _ {tr tr′ : List ℕ} {at k : ℕ} (o : Only tr tr′ at k) where
   -- what is written before the place or among the slots leaves the head
-  pub head-kept : (z : Sizes) → (at + k ≤ phaseAt) ⊎ (headWords + z .t ≤ at) → HeadKept z tr tr′
+  head-kept : (z : Sizes) → (at + k ≤ phaseAt) ⊎ (headWords + z .t ≤ at) → HeadKept z tr tr′
   head-kept z c =
       record {
         long = o .long;
@@ -144,12 +144,110 @@ module _ {tr tr′ : List ℕ} {at k : ℕ} (o : Only tr tr′ at k) where
       }
 
   -- what is written before the slots leaves every slot's
-  pub slot-kept : (z : Sizes) → at + k ≤ headWords + z .t → (m : ℕ) → SlotKept z tr tr′ m
+  slot-kept : (z : Sizes) → at + k ≤ headWords + z .t → (m : ℕ) → SlotKept z tr tr′ m
   slot-kept z h m =
       record { retired = o .words (retiredAt z m) (inr (omega arith)); waiting = λ d. flag-same z tr tr′ d m (o .words (waitingAt z d m) (inr (omega arith))) }
 
-  pub uid-kept : (at + k ≤ nextUidAt) ⊎ (nextUidAt < at) → nextUidOf tr′ ≡ nextUidOf tr
+  uid-kept : (at + k ≤ nextUidAt) ⊎ (nextUidAt < at) → nextUidOf tr′ ≡ nextUidOf tr
   uid-kept c = o .words nextUidAt (⊎-elim (λ q. inr q) (λ q. inl q) c)
+
+-- ---- .. after each writer
+module _ (tr : List ℕ) (z : Sizes) where
+  module _ (s : ℕ) where
+    pub last-head : HeadKept z tr (setLast tr s)
+    last-head = head-kept (last-only tr s) z (inl (omega arith))
+
+    pub last-slots : (m : ℕ) → SlotKept z tr (setLast tr s) m
+    last-slots = slot-kept (last-only tr s) z (omega arith)
+
+    pub last-uid : nextUidOf (setLast tr s) ≡ nextUidOf tr
+    last-uid = uid-kept (last-only tr s) (inl (omega arith))
+
+  module _ (u : ℕ) where
+    pub uid-head : HeadKept z tr (setNextUid tr u)
+    uid-head = head-kept (uid-only tr u) z (inl (omega arith))
+
+    pub uid-slots : (m : ℕ) → SlotKept z tr (setNextUid tr u) m
+    uid-slots = slot-kept (uid-only tr u) z (omega arith)
+
+  module _ (thread e : ℕ) where
+    pub open-slots : thread < z .t → (m : ℕ) → SlotKept z tr (setOpen tr thread e) m
+    open-slots h = slot-kept (open-only tr thread e) z (omega arith)
+
+    pub open-phase : placePhase (setOpen tr thread e) ≡ placePhase tr
+    open-phase = open-only tr thread e .words phaseAt (inl (omega arith))
+
+    pub open-slot : placeSlot (setOpen tr thread e) ≡ placeSlot tr
+    open-slot = open-only tr thread e .words placeAt (inl (omega arith))
+
+    pub open-uid : nextUidOf (setOpen tr thread e) ≡ nextUidOf tr
+    open-uid = uid-kept (open-only tr thread e) (inr (omega arith))
+
+  module _ (phase slot : ℕ) where
+    pub place-opens : (thread : ℕ) → openEpoch (setPlace tr phase slot) thread ≡ openEpoch tr thread
+    place-opens thread = place-only tr phase slot .words (openAt thread) (inr (omega arith))
+
+    pub place-slots : (m : ℕ) → SlotKept z tr (setPlace tr phase slot) m
+    place-slots = slot-kept (place-only tr phase slot) z (omega arith)
+
+    pub place-uid : nextUidOf (setPlace tr phase slot) ≡ nextUidOf tr
+    place-uid = uid-kept (place-only tr phase slot) (inr (omega arith))
+
+  module _ (s e : ℕ) where
+    pub retired-head : HeadKept z tr (setRetired z tr s e)
+    retired-head = head-kept (retired-only tr z s e) z (inr (omega arith))
+
+    pub retired-uid : nextUidOf (setRetired z tr s e) ≡ nextUidOf tr
+    retired-uid = uid-kept (retired-only tr z s e) (inr (omega arith))
+
+  module _ (e s : ℕ) where
+    pub waiting-head : HeadKept z tr (setWaiting z tr e s)
+    waiting-head = head-kept (waiting-only tr z e s) z (inr (omega arith))
+
+    pub waiting-uid : nextUidOf (setWaiting z tr e s) ≡ nextUidOf tr
+    waiting-uid = uid-kept (waiting-only tr z e s) (inr (omega arith))
+
+  module _ (e : ℕ) where
+    pub emptied-head : HeadKept z tr (emptied z tr e)
+    emptied-head = head-kept (list-only tr z e) z (inr (omega arith))
+
+    pub emptied-uid : nextUidOf (emptied z tr e) ≡ nextUidOf tr
+    emptied-uid = uid-kept (list-only tr z e) (inr (omega arith))
+
+-- ---- blank notes
+zeros-at : (k j : ℕ) → _≡_ {A = ℕ} (getD (replicate k 0) j 0) 0
+zeros-at k j = elim (decLt j k) [
+  | yes h ↦ getD-replicate k j 0 0 h
+  | no h ↦ List·getD-eq-default (replicate k 0) 0 (omega (arith, length-replicate {A = ℕ} k 0))
+]
+
+module _ (len n u : ℕ) where
+  pub blank-length : length (blank len n u) ≡ len
+  unfolding blank
+  blank-length = simp (length-set, length-replicate)
+
+  blank-zeros : (j : ℕ) → nextUidAt < j → getD (blank len n u) j 0 ≡ 0
+  unfolding blank
+  blank-zeros j h =
+      getD-set-other (set (set (replicate len 0) slotsAt n) lastAt (n - 1)) nextUidAt j u 0 (λ q. omega arith)
+      ∙ getD-set-other (set (replicate len 0) slotsAt n) lastAt j (n - 1) 0 (λ q. omega arith)
+      ∙ getD-set-other (replicate len 0) slotsAt j n 0 (λ q. omega arith)
+      ∙ zeros-at len j
+
+  pub blank-uid : headWords ≤ len → nextUidOf (blank len n u) ≡ u
+  unfolding blank
+  blank-uid h =
+      getD-set-same (set (set (replicate len 0) slotsAt n) lastAt (n - 1)) nextUidAt u 0
+      (simp (length-set, length-replicate) (omega arith))
+
+  pub blank-phase : placePhase (blank len n u) ≡ 0
+  blank-phase = blank-zeros phaseAt (omega arith)
+
+  pub blank-open : (thread : ℕ) → openEpoch (blank len n u) thread ≡ 0
+  blank-open thread = blank-zeros (openAt thread) (omega arith)
+
+  pub blank-retired : (z : Sizes) (s : ℕ) → retiredIn z (blank len n u) s ≡ 0
+  blank-retired z s = blank-zeros (retiredAt z s) (omega arith)
 
 -- ---- each writer's own note
 module _ {tr : List ℕ} {z : Sizes} (y : Notes tr z) where
