@@ -1,11 +1,12 @@
--- New, set and delete keep the invariant.
+-- What a call on jobs leaves is good, beside what the reference map makes of its reply: by the shapes that definitions are made of.
 use Prim.Native.Nat.{ℕ, _+_, _-_, _≤_, _<_}
-use mathlib.Core.Path.{_≡_, refl}
-use mathlib.Core.Bool.{Bool, true, false}
+use mathlib.Core.Path.{_≡_, refl, sym, _∙_}
+use mathlib.Core.Bool.{Bool, true, false, not, cond}
 use mathlib.Core.Logic.{_≢_}
 use mathlib.Core.List.{List}
+use lib.ListN.{length}
 use lib.Dec.{leb, eqb}
-use borrow.Author.Tests.{eqb-true, eqb-false, leb-false, not-false}
+use borrow.Author.Tests.{leb-false, eqb-true, eqb-false, not-false}
 use native.Mathlib.Omega.{arith}
 use Rattle.search.specs.Bools.{or-left, or-right}
 use Rattle.reply.specs.declared.Check.{Check}
@@ -13,75 +14,102 @@ use Rattle.reply.specs.declared.Check.the-variants.{Accepted, Refused}
 use Rattle.reply.specs.declared.Refusal.{Refusal}
 use Rattle.reply.specs.declared.Refusal.the-variants.{NoThread, NotOpen, BadArgument}
 use Rattle.image.specs.Layout.{slotsOf, widthOf}
-use Rattle.transient.specs.Store.{Store, store}
-use Rattle.transient.specs.Layout.{lastTaken, openEpoch}
-use Rattle.transient.specs.Entry.{threads, entryCheck}
-use Rattle.changes.specs.Code.{entry-passed}
-use Rattle.jobs.specs.Job.{badJob, operating}
-use Rattle.transient.specs.Calls.{Changed, refused, declines, entered, onStore, Answer}
+use Rattle.image.specs.Name.{Name}
+use Rattle.transient.specs.declared.sizes.Sizes.{Sizes}
+use Rattle.transient.specs.Layout.{threadsOf, transientWords, lastTaken, openEpoch}
+use Rattle.transient.specs.Store.{Store, Table, store, table, tableOf, sizesOf, Outcome, afterCheck}
+use Rattle.transient.specs.Entry.{entryCheck}
+use Rattle.transient.specs.Calls.{Changed, refused, declines, inStore, onStore}
+use Rattle.transient.specs.Passed.{entry-with}
+use Rattle.jobs.specs.declared.way.Way.{Way}
+use Rattle.jobs.specs.declared.way.Way.the-variants.{Open, Declined}
+use Rattle.jobs.specs.Job.{Job, badJob}
+use Rattle.jobs.specs.Way.{wayIn, byWay}
 use Rattle.crash.specs.Reference.{Jobs, Act, Value}
 use Rattle.guarantee.specs.Trace.{Plain, toldChange}
 use Rattle.guarantee.specs.Good.{Good}
 
--- ---- the shapes that calls are made of
+-- ---- the shapes
 -- a condition that refuses, or what follows
-pub declines-way : (P : Changed → Type 0) (wk tr : List ℕ) (b : Bool) (r : Refusal) (next : Changed) → P (refused r wk tr) → (b ≡ false → P next) → P (declines b r wk tr next)
-declines-way P wk tr true r next g h = g
-declines-way P wk tr false r next g h = h refl
+pub declines-way : (P : Changed → Type 0) (tb : Table) (b : Bool) (r : Refusal) (next : Changed) → P (refused r tb) → (b ≡ false → P next)
+    → P (declines b r tb next)
+declines-way P tb true r next g h = g
+declines-way P tb false r next g h = h refl
+
+-- the way in: 5, 7 and 8, or the open epoch
+module _ (P : Changed → Type 0) (sz : Sizes) (tb : Table) (thread : ℕ) (bad : Bool) (next : ℕ → Changed) where
+  abbrev e : ℕ
+  e = openEpoch (tb .transient) thread
+
+  pub way-way : ((r : Refusal) → P (refused r tb)) → (thread < sz .t → e ≢ 0 → bad ≡ false → P (next e)) → P (byWay (wayIn sz (tb .transient) thread bad) tb next)
+  unfolding wayIn
+  way-way declined goes = first (leb (sz .t) thread) refl
+    where
+      third : (b : Bool) → bad ≡ b → thread < sz .t → e ≢ 0 → P (byWay (cond b (Declined BadArgument) (Open e)) tb next)
+      third true q h d = declined BadArgument
+      third false q h d = goes h d q
+
+      second : (b : Bool) → eqb e 0 ≡ b → thread < sz .t → P (byWay (cond b (Declined NotOpen) (cond bad (Declined BadArgument) (Open e))) tb next)
+      second true q h = declined NotOpen
+      second false q h = third bad refl h (eqb-false e 0 q)
+
+      first : (b : Bool) → leb (sz .t) thread ≡ b → P (byWay (cond b (Declined NoThread) (cond (eqb e 0) (Declined NotOpen) (cond bad (Declined BadArgument) (Open e)))) tb next)
+      first true q = declined NoThread
+      first false q = second (eqb e 0) refl (leb-false (sz .t) thread q)
 
 -- refusals 1 and 2, or the call's own part
-pub call-way : (P : Answer → Type 0) (st : Store) (call : List ℕ → List ℕ → ℕ → ℕ → ℕ → Changed) → ((r : Refusal) → P (record { reply = Refused r; store = st }))
-    → (entryCheck st ≡ Accepted → P (entered Accepted st (call (st .working) (st .transient) (slotsOf (st .working)) (widthOf (st .working)) (threads st)))) → P (onStore st call)
+pub call-way : (P : Outcome Check → Type 0) (st : Store) (call : Sizes → Table → Changed) → ((r : Refusal) → P (record { reply = Refused r; store = st }))
+    → (entryCheck st ≡ Accepted → P (inStore st (call (sizesOf (tableOf st)) (tableOf st)))) → P (onStore st call)
 call-way P st call a b = go (entryCheck st) refl
   where
-    go : (k : Check) → entryCheck st ≡ k → P (entered k st (call (st .working) (st .transient) (slotsOf (st .working)) (widthOf (st .working)) (threads st)))
+    go : (k : Check) → entryCheck st ≡ k → P (afterCheck k Refused st (inStore st (call (sizesOf (tableOf st)) (tableOf st))))
     go (Refused r) e = a r
     go Accepted e = b e
 
-pub threads-is : {sz : Sizes} {start : Jobs} {st : Store} {p : Plain} → Good sz start st p → threads st ≡ t
-threads-is g = rw (g .notes .long, g .working .slots-is) (omega arith)
+-- ---- a good store has the sizes of the invariant
+module _ {sz : Sizes} {start : Jobs} {st : Store} {p : Plain} (g : Good sz start st p) where
+  pub sizes-is : sizesOf (tableOf st) ≡ sz
+  unfolding sizesOf
+  sizes-is =
+      let t : threadsOf (length (st .transient)) (slotsOf (st .working)) ≡ sz .t = rw (g .notes .long, g .working .slots-is) (omega arith) in
+      λ i. record { n = g .working .slots-is i; w = g .working .width-is i; t = t i }
 
--- what a call's part leaves is good
-pub record Fine (sz : Sizes) (start : Jobs) (l : List ℕ) (p : Plain) (act : Act) (thread key : ℕ) (v : Value) (ch : Changed) : Type 0 where
-  pub good : Good sz start (store (ch .working) l (ch .transient)) (toldChange (ch .reply) act thread key v p)
+  -- the notes name slots of the table
+  pub last-below : entryCheck st ≡ Accepted → lastTaken (st .transient) < sz .n
+  last-below a = rw sizes-is at (entry-with (st .working) (st .persistent) (st .transient) a .entered .last)
 
-module _ {sz : Sizes} {start : Jobs} {wk l tr : List ℕ} {p : Plain} {act : Act} {thread key : ℕ} {v : Value} (g : Good sz start (store wk l tr) p) where
-  pub fine-refused : (r : Refusal) → Fine sz start l p act thread key v (refused r wk tr)
+-- ---- what a call's part leaves is good
+pub record Fine (sz : Sizes) (start : Jobs) (l : List ℕ) (p : Plain) (act : Act) (thread : ℕ) (name : Name) (v : Value) (ch : Changed) : Type 0 where
+  pub good : Good sz start (store (ch .table .working) l (ch .table .transient)) (toldChange act thread name v (ch .reply) p)
+
+module _ {sz : Sizes} {start : Jobs} {wk l tr : List ℕ} {p : Plain} {act : Act} {thread : ℕ} {name : Name} {v : Value} (g : Good sz start (store wk l tr) p) where
+  pub fine-refused : (r : Refusal) → Fine sz start l p act thread name v (refused r (table wk tr))
   fine-refused r = record { good = g }
 
-  -- a condition that refuses, or what follows
-  pub fine-declines : (b : Bool) (r : Refusal) (next : Changed) → (b ≡ false → Fine sz start l p act thread key v next)
-      → Fine sz start l p act thread key v (declines b r wk tr next)
-  fine-declines b r next h = declines-way (Fine sz start l p act thread key v) wk tr b r next (record { good = g }) h
+  pub fine-declines : (b : Bool) (r : Refusal) (next : Changed) → (b ≡ false → Fine sz start l p act thread name v next)
+      → Fine sz start l p act thread name v (declines b r (table wk tr) next)
+  fine-declines b r next h = declines-way (Fine sz start l p act thread name v) (table wk tr) b r next (fine-refused r) h
+
+  pub fine-way : (bad : Bool) (next : ℕ → Changed)
+      → (thread < sz .t → openEpoch tr thread ≢ 0 → bad ≡ false → Fine sz start l p act thread name v (next (openEpoch tr thread)))
+      → Fine sz start l p act thread name v (byWay (wayIn sz tr thread bad) (table wk tr) next)
+  fine-way bad next h = way-way (Fine sz start l p act thread name v) sz (table wk tr) thread bad next (λ r. fine-refused r) h
 
 -- a whole call, from its part after refusals 1 and 2
-pub fine-call : {sz : Sizes} {start : Jobs} {st : Store} {p : Plain} {act : Act} {thread key : ℕ} {v : Value} (call : List ℕ → List ℕ → ℕ → ℕ → ℕ → Changed)
+pub fine-call : {sz : Sizes} {start : Jobs} {st : Store} {p : Plain} {act : Act} {thread : ℕ} {name : Name} {v : Value} (call : Sizes → Table → Changed)
     → Good sz start st p
-    → (entryCheck st ≡ Accepted → Fine sz start (st .persistent) p act thread key v (call (st .working) (st .transient) sz))
-    → Good sz start (onStore st call .store) (toldChange (onStore st call .reply) act thread key v p)
-fine-call {sz} {start} {st} {p} {act} {thread} {key} {v} call g h =
-    call-way (λ a. Good sz start (a .store) (toldChange (a .reply) act thread key v p)) st call (λ r. g)
-    (λ e. rw (threads-is g, g .working .slots-is, g .working .width-is) (h e .good))
+    → (entryCheck st ≡ Accepted → Fine sz start (st .persistent) p act thread name v (call sz (tableOf st)))
+    → Good sz start (onStore st call .store) (toldChange act thread name v (onStore st call .reply) p)
+fine-call {sz} {start} {st} {p} {act} {thread} {name} {v} call g h =
+    call-way (λ a. Good sz start (a .store) (toldChange act thread name v (a .reply) p)) st call (λ r. g)
+    (λ e. rw (sizes-is g) (h e .good))
 
--- the last slot taken is one of the table
-pub last-below : {sz : Sizes} {start : Jobs} {st : Store} {p : Plain} → Good sz start st p → entryCheck st ≡ Accepted → lastTaken (st .transient) < sz .n
-last-below {st = st} g a = rw (g .working .slots-is) at (entry-passed (st .working) (st .persistent) (st .transient) refl a .inside .last)
+-- ---- 8
+module _ (sz : Sizes) (j : Job) (c : badJob sz j ≡ false) where
+  pub bad-key : j .key ≢ 0
+  unfolding badJob
+  bad-key = eqb-false (j .key) 0 (or-left (eqb (j .key) 0) _ c)
 
--- 5, 7 and 8
-module _ {sz : Sizes} {start : Jobs} {wk l tr : List ℕ} {p : Plain} {act : Act} {thread key : ℕ} {v : Value} (g : Good sz start (store wk l tr) p) where
-  pub operating-fine : (bad : Bool) (next : Changed)
-      → (thread < sz .t → openEpoch tr thread ≢ 0 → bad ≡ false → Fine sz start l p act thread key v next)
-      → Fine sz start l p act thread key v (operating wk tr t thread bad next)
-  operating-fine bad next h =
-      fine-declines g (leb (sz .t) thread) NoThread _
-      (λ a. fine-declines g (eqb (openEpoch tr thread) 0) NotOpen _
-      (λ b. fine-declines g bad BadArgument next
-      (λ c. h (leb-false (sz .t) thread a) (eqb-false _ 0 b) c)))
-
-pub bad-key : (w key words : ℕ) → badJob w key words ≡ false → key ≢ 0
-unfolding badJob
-bad-key w key words c = eqb-false key 0 (or-left (eqb key 0) _ c)
-
-pub bad-words : (w key words : ℕ) → 2 ≤ w → badJob w key words ≡ false → words + 1 ≡ w
-unfolding badJob
-bad-words w key words h c = let q = eqb-true words (w - 1) (not-false _ (or-right (eqb key 0) _ c)) in omega arith
+  pub bad-words : 2 ≤ sz .w → length (j .value) + 1 ≡ sz .w
+  unfolding badJob
+  bad-words h = let q = eqb-true (length (j .value)) (sz .w - 1) (not-false _ (or-right (eqb (j .key) 0) _ c)) in omega arith

@@ -4,24 +4,26 @@ use mathlib.Core.Path.{_≡_, refl, _∙_}
 use mathlib.Core.Bool.{Bool, true, false}
 use mathlib.Core.Logic.{_≢_}
 use mathlib.Core.List.{List, [], _∷_, _++_}
-use lib.ListN.{length}
 use lib.Dec.{eqb}
 use borrow.Author.Tests.{le-leb, ne-eqb}
 use native.Mathlib.Omega.{arith}
 use Rattle.search.specs.Bools.{never, and-both}
 use Rattle.image.specs.declared.header.Header.{Header}
+use Rattle.image.specs.Name.{Name}
+use Rattle.transient.specs.declared.sizes.Sizes.{Sizes}
 use Rattle.transient.specs.Store.{Store, store}
 use Rattle.transient.specs.Layout.{nextUidOf, placePhase, placeSlot, openEpoch, isWaiting}
-use Rattle.transient.specs.Laws.{notes-after}
-use Rattle.epochs.specs.Advance.{underway}
+use Rattle.transient.specs.Requires.{notes-after}
+use Rattle.transient.specs.Laws.{HeadKept, waiting-again}
+use Rattle.epochs.specs.Advance.{reclaimNext, contentsNext, headerNext, clockNext, underway}
 use Rattle.crash.specs.Table.{Put}
-use Rattle.crash.specs.Reference.{Jobs, Act, Name, Value, Change}
+use Rattle.crash.specs.Reference.{Jobs, Act, Value, Change}
 use Rattle.crash.specs.Slots.{Slot, State, Place, Inv}
 use Rattle.crash.specs.Steps.{Operation, Joins}
-use Rattle.guarantee.specs.Trace.{Plain}
+use Rattle.guarantee.specs.Trace.{Plain, plain, rowed}
 use Rattle.guarantee.specs.View.{flag, entryOf, slotOf, view, progress, view-in, view-put}
 use Rattle.guarantee.specs.Good.{stateOf, Image, Opens, Good}
-use Rattle.guarantee.specs.Notes.{Joined, joined-retired, joined-waiting, joined-open, joined-phase, joined-slot, joined-in, joined-kept, waiting-again}
+use Rattle.guarantee.specs.Notes.{Joined}
 use Rattle.guarantee.specs.Images.{Wrote}
 
 -- ---- flags
@@ -40,25 +42,17 @@ pub record Resting (p : Place) : Type 0 where
   pub flushed : p .flushed ≡ 0
   pub half : p .half ≡ 0
 
-pub progress-rest : (n : ℕ) (tr : List ℕ) → underway tr ≡ false → Resting (progress (sz .n) (placePhase tr) (placeSlot tr))
+pub progress-rest : (n : ℕ) (tr : List ℕ) → underway tr ≡ false → Resting (progress n (placePhase tr) (placeSlot tr))
 unfolding underway progress
-progress-rest (sz .n) tr u =
+progress-rest n tr u =
     let k = placePhase tr in
-    let off : (j : ℕ) → 1 ≤ j → j ≤ 4 → eqb k j ≡ false =
-    λ j a b. ne-eqb k j (λ q. never _ (and-both (le-leb 1 k (omega arith)) (le-leb k 4 (omega arith))) u) in
-    record { flushed = rw (off 2 (omega arith) (omega arith), off 3 (omega arith) (omega arith), off 4 (omega arith) (omega arith)); half = rw (off 3 (omega arith) (omega arith)) }
+    let off : (j : ℕ) → reclaimNext ≤ j → j ≤ clockNext → eqb k j ≡ false =
+    λ j a b. ne-eqb k j (λ q. never _ (and-both (le-leb reclaimNext k (omega arith)) (le-leb k clockNext (omega arith))) u) in
+    let head = off headerNext (omega arith) (omega arith) in
+    record { flushed = rw (off contentsNext (omega arith) (omega arith), head, off clockNext (omega arith) (omega arith)); half = rw head }
 
--- ---- the notes but for slots: the open operations and the place
-pub record NotesKept (tr tr′ : List ℕ) (t : ℕ) : Type 0 where
-  pub long : length tr′ ≡ length tr
-  pub opens : (thread : ℕ) → thread < sz .t → openEpoch tr′ thread ≡ openEpoch tr thread
-  pub phase : placePhase tr′ ≡ placePhase tr
-  pub slot : placeSlot tr′ ≡ placeSlot tr
-
-pub joined-notes : {tr tr′ : List ℕ} {n t e s r u : ℕ} → Joined tr tr′ n t e s r u → NotesKept tr tr′ t
-joined-notes z = record { long = z .long; opens = joined-open z; phase = joined-phase z; slot = joined-slot z }
-
-pub opens-after : {t : ℕ} {tr tr′ : List ℕ} {p : Plain} → NotesKept tr tr′ t → Opens sz tr p → Opens sz tr′ p
+-- ---- the open operations and the place stay
+pub opens-after : {sz : Sizes} {tr tr′ : List ℕ} {p : Plain} → HeadKept sz tr tr′ → Opens sz tr p → Opens sz tr′ p
 unfolding underway
 opens-after z o =
     record {
@@ -84,7 +78,7 @@ module _ {sz : Sizes} {start : Jobs} {st : Store} {p : Plain} (g : Good sz start
       }
 
   -- ---- the slot that is written
-  module _ {wk′ tr′ : List ℕ} {e s r u : ℕ} {h : Header} {line : List ℕ} (a : Wrote (st .working) wk′ sz s h line) (j : Joined (st .transient) tr′ n t e s r u) (k : s < sz .n) where
+  module _ {wk′ tr′ : List ℕ} {e s r u : ℕ} {h : Header} {line : List ℕ} (a : Wrote (st .working) wk′ sz s h line) (j : Joined sz (st .transient) tr′ e s r u) (k : s < sz .n) where
     abbrev now : ℕ
     now = flag (isWaiting sz tr′ (p .clock) s)
 
@@ -97,7 +91,7 @@ module _ {sz : Sizes} {start : Jobs} {st : Store} {p : Plain} (g : Good sz start
 
     there : (m : ℕ) → m < sz .n → m ≢ s → slotOf (store wk′ (st .persistent) tr′) sz (p .clock) m ≡ slotOf st sz (p .clock) m
     there m b d =
-        rw (a .header-there m b d, a .line-there m b d, joined-retired j m b d, joined-waiting j (p .clock) m k b d, joined-waiting j (p .clock + 1) m k b d)
+        rw (a .header-there m b d, a .line-there m b d, j .others m b d .retired, j .others m b d .waiting (p .clock), j .others m b d .waiting (p .clock + 1))
 
     pub change-put : Put (view st sz (p .clock)) (view (store wk′ (st .persistent) tr′) sz (p .clock)) s
         (record { working = entryOf h line; persistent = view st sz (p .clock) s .persistent; retired = r; now = now; before = before })
@@ -107,27 +101,27 @@ module _ {sz : Sizes} {start : Jobs} {st : Store} {p : Plain} (g : Good sz start
     change-joins =
         rw (view-in st sz (p .clock) s k)
         record {
-          now-kept = flag-up (isWaiting sz (st .transient) (p .clock) s) (isWaiting sz tr′ (p .clock) s) (joined-kept j (p .clock) k);
-          before-kept = flag-up (isWaiting sz (st .transient) (p .clock + 1) s) (isWaiting sz tr′ (p .clock + 1) s) (joined-kept j (p .clock + 1) k);
-          joins-now = λ q. flag-on (rw q at (joined-in j));
+          now-kept = flag-up (isWaiting sz (st .transient) (p .clock) s) (isWaiting sz tr′ (p .clock) s) (j .stays (p .clock));
+          before-kept = flag-up (isWaiting sz (st .transient) (p .clock + 1) s) (isWaiting sz tr′ (p .clock + 1) s) (j .stays (p .clock + 1));
+          joins-now = λ q. flag-on (rw q at (j .joins));
           joins-before = λ q. let y : isWaiting sz tr′ (p .clock + 1) s ≡ true = rw (← q) (waiting-later q) in flag-on y;
         }
       where
         waiting-later : e + 1 ≡ p .clock → isWaiting sz tr′ (e + 1 + 1) s ≡ true
-        waiting-later q = let z : e + 1 + 1 ≡ e + 2 = omega arith in rw z (waiting-again tr′ n t e s ∙ joined-in j)
+        waiting-later q = let z : e + 1 + 1 ≡ e + 2 = omega arith in rw z (waiting-again sz tr′ e s ∙ j .joins)
 
   -- ---- all else
   -- the reference map with another row
-  abbrev pub rowed : List Change → Plain
-  rowed row = record { clock = p .clock; operation = p .operation; row = row; ended = p .ended; durable = p .durable }
+  abbrev pub withRow : List Change → Plain
+  withRow row = plain (p .clock) (p .operation) row (p .ended) (p .durable)
 
   -- the state that a change leaves: other slots, a next uid, another row
   abbrev pub changedState : (ℕ → Slot) → ℕ → List Change → State
   changedState f u row =
       record { slots = f; clock = p .clock; uid = u; place = progress (sz .n) (placePhase (st .transient)) (placeSlot (st .transient)); start = start; row = row }
 
-  pub good-change : {wk′ tr′ : List ℕ} {u : ℕ} {row row′ : List Change} → Image sz (p .clock) wk′ → NotesKept (st .transient) tr′ t → nextUidOf tr′ ≡ u → row′ ≡ row
-      → Inv (changedState (view (store wk′ (st .persistent) tr′) sz (p .clock)) u row) → Good sz start (store wk′ (st .persistent) tr′) (rowed row′)
+  pub good-change : {wk′ tr′ : List ℕ} {u : ℕ} {row row′ : List Change} → Image sz (p .clock) wk′ → HeadKept sz (st .transient) tr′ → nextUidOf tr′ ≡ u → row′ ≡ row
+      → Inv (changedState (view (store wk′ (st .persistent) tr′) sz (p .clock)) u row) → Good sz start (store wk′ (st .persistent) tr′) (withRow row′)
   good-change i z a b v =
       record {
         clock-hi = g .clock-hi;
@@ -141,6 +135,6 @@ module _ {sz : Sizes} {start : Jobs} {st : Store} {p : Plain} (g : Good sz start
 
   -- an entry of the row by the operation's epoch in the notes
   pub row-epoch : (act : Act) (thread : ℕ) (k : Name) (v : Value) → thread < sz .t
-      → p .row ++ (record { epoch = p .operation thread; act = act; name = k; value = v } ∷ [])
+      → rowed p act thread k v
       ≡ p .row ++ (record { epoch = openEpoch (st .transient) thread; act = act; name = k; value = v } ∷ [])
   row-epoch act thread k v h = rw (g .opens .same thread h)

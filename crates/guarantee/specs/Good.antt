@@ -1,10 +1,13 @@
--- The invariant of a run: the crash invariant of the store seen as a table, with sizes n, w and t that never change.
+-- The invariant of a run: the crash invariant of the store seen as a table, with sizes that never change.
 use Prim.Native.Nat.{ℕ, _+_, _≤_, _<_}
 use mathlib.Core.Path.{_≡_}
 use mathlib.Core.Bool.{false}
 use mathlib.Core.List.{List, List·Memᴰ}
-use Rattle.image.specs.Layout.{slotsOf, widthOf, clockOf, Sized}
-use Rattle.transient.specs.Layout.{nextUidOf, placePhase, placeSlot, openEpoch, Notes}
+use Rattle.image.specs.Layout.{mostNumber, slotsOf, widthOf, clockOf}
+use Rattle.image.specs.Requires.{Sized}
+use Rattle.transient.specs.declared.sizes.Sizes.{Sizes}
+use Rattle.transient.specs.Layout.{nextUidOf, placePhase, placeSlot, openEpoch}
+use Rattle.transient.specs.Requires.{Notes}
 use Rattle.transient.specs.Store.{Store}
 use Rattle.crash.specs.Reference.{Jobs}
 use Rattle.crash.specs.Slots.{State, Inv}
@@ -13,7 +16,7 @@ use Rattle.guarantee.specs.Trace.{Plain}
 use Rattle.guarantee.specs.View.{view, progress}
 
 -- the clock is the reference map's: that both images have it is a line of the invariant
-abbrev pub stateOf : ℕ → ℕ → ℕ → Jobs → Store → Plain → State
+abbrev pub stateOf : Sizes → Jobs → Store → Plain → State
 stateOf sz start st p =
     record {
       slots = view st sz (p .clock);
@@ -25,15 +28,15 @@ stateOf sz start st p =
     }
 
 -- J7: an image of n slots and w words, with the clock
-pub record Image (n w c : ℕ) (l : List ℕ) : Type 0 where
-  pub sized : Sized l n w
-  pub slots-is : slotsOf l ≡ n
-  pub width-is : widthOf l ≡ w
+pub record Image (sz : Sizes) (c : ℕ) (l : List ℕ) : Type 0 where
+  pub sized : Sized l (sz .n) (sz .w)
+  pub slots-is : slotsOf l ≡ sz .n
+  pub width-is : widthOf l ≡ sz .w
   pub clock-is : clockOf l ≡ c
 
 -- the threads: each one's open epoch is what the reference map has, the clock or one below it;
 -- K2: none is open in c − 1 while an advance is underway
-pub record Opens (t : ℕ) (tr : List ℕ) (p : Plain) : Type 0 where
+pub record Opens (sz : Sizes) (tr : List ℕ) (p : Plain) : Type 0 where
   pub same : (thread : ℕ) → thread < sz .t → openEpoch tr thread ≡ p .operation thread
   pub least : (thread : ℕ) → thread < sz .t → 1 ≤ openEpoch tr thread → 2 ≤ openEpoch tr thread
   pub low : (thread : ℕ) → thread < sz .t → 1 ≤ openEpoch tr thread → p .clock ≤ openEpoch tr thread + 1

@@ -2,7 +2,7 @@
 use Prim.Native.Nat.{ℕ, _≤_, _<_}
 use mathlib.Core.Path.{_≡_, refl, sym, _∙_}
 use mathlib.Core.Bool.{true, false}
-use mathlib.Core.Logic.{_≢_, _⊎_, ⊎-elim}
+use mathlib.Core.Logic.{_≢_, ⊎-elim}
 use mathlib.Core.List.{List}
 use lib.Dec.{leb, eqb}
 use borrow.Author.Tests.{eqb-true, leb-true, le-leb, eq-eqb, lt-ltb, not-true}
@@ -11,16 +11,19 @@ use native.Mathlib.Decide.{ℕ-discrete, decLt, decLe}
 use Rattle.search.specs.Bools.{cases, never, and-both, and-left, and-right}
 use Rattle.search.specs.First.{found-first, found-nothing}
 use Rattle.search.specs.Some.{some-none}
+use Rattle.search.specs.Count.{count}
 use Rattle.search.specs.Ring.{firstRound, round-found}
 use Rattle.search.specs.declared.Found.{Found}
 use Rattle.search.specs.declared.Found.the-variants.{At, Nothing}
-use Rattle.image.specs.Layout.{filledKind, payloadKind, header, keyAt}
-use Rattle.image.specs.Laws.{key-contents}
-use Rattle.transient.specs.Store.{Store}
-use Rattle.transient.specs.Layout.{retiredIn}
+use Rattle.image.specs.Layout.{filledKind, payloadKind, header}
+use Rattle.image.specs.Name.{Name, nameAt, same-name, name-same}
+use Rattle.image.specs.Laws.{name-contents}
+use Rattle.transient.specs.declared.sizes.Sizes.{Sizes}
+use Rattle.transient.specs.Layout.{lastTaken, retiredIn}
+use Rattle.transient.specs.Store.{Store, Table, tableOf}
 use Rattle.table.specs.declared.find.Lookup.{Lookup}
-use Rattle.table.specs.declared.find.Lookup.the-variants.{Newer, Live, Absent}
-use Rattle.table.specs.Find.{newerAt, newer, liveAt, liveSlot, lookedUp, lookup, freeAt, freeCount, room}
+use Rattle.table.specs.declared.find.Lookup.the-variants.{Later, Live, Absent}
+use Rattle.table.specs.Find.{newerAt, newer, liveAt, liveSlot, lookedUp, lookup, freeAt, room}
 use Rattle.crash.specs.Reference.{Jobs}
 use Rattle.crash.specs.Slots.{Slot, Filled, Payload}
 use Rattle.guarantee.specs.Trace.{Plain}
@@ -45,49 +48,51 @@ unfolding filledKind
 filled-says k e = (leb-true 1 k (and-left (leb 1 k) _ e), leb-true k 3 (and-right (leb 1 k) _ e))
 
 -- ---- what a look-up says
-pub record Missing (wk tr : List ℕ) (sz : Sizes) (key e : ℕ) : Type 0 where
-  pub newest : newer wk n w key e ≡ false
-  pub none : liveSlot wk tr sz key ≡ Nothing
+pub record Missing (sz : Sizes) (tb : Table) (name : Name) (e : ℕ) : Type 0 where
+  pub newest : newer sz (tb .working) name e ≡ false
+  pub none : liveSlot sz tb name ≡ Nothing
 
-pub record Holding (wk tr : List ℕ) (sz : Sizes) (key e s : ℕ) : Type 0 where
-  pub newest : newer wk n w key e ≡ false
-  pub found : liveSlot wk tr sz key ≡ At s
+pub record Holding (sz : Sizes) (tb : Table) (name : Name) (e s : ℕ) : Type 0 where
+  pub newest : newer sz (tb .working) name e ≡ false
+  pub found : liveSlot sz tb name ≡ At s
 
-module _ (wk tr : List ℕ) (sz : Sizes) (key e : ℕ) where
-  looked : (k : Lookup) → lookup wk tr sz key e ≡ k → k ≢ Newer → (newer wk n w key e ≡ false) × (lookedUp (liveSlot wk tr sz key) ≡ k)
+module _ (sz : Sizes) (tb : Table) (name : Name) (e : ℕ) where
+  looked : (k : Lookup) → lookup sz tb name e ≡ k → k ≢ Later → (newer sz (tb .working) name e ≡ false) × (lookedUp (liveSlot sz tb name) ≡ k)
   unfolding lookup
   looked k q d =
       ⊎-elim
-      (λ (y : newer wk n w key e ≡ true). let z : Newer ≡ k = rw y at q in absurd (d (sym z)))
-      (λ (y : newer wk n w key e ≡ false). (y, rw y at q))
-      (cases (newer wk n w key e))
+      (λ (y : newer sz (tb .working) name e ≡ true). let z : Later ≡ k = rw y at q in absurd (d (sym z)))
+      (λ (y : newer sz (tb .working) name e ≡ false). (y, rw y at q))
+      (cases (newer sz (tb .working) name e))
 
-  pub absent-says : lookup wk tr sz key e ≡ Absent → Missing wk tr sz key e
+  pub absent-says : lookup sz tb name e ≡ Absent → Missing sz tb name e
   absent-says q =
       let b = looked Absent q (λ z. let y : _≡_ {A = ℕ} 0 1 = cc in omega arith) in
-      record { newest = b .0; none = go (liveSlot wk tr sz key) (b .1) }
+      record { newest = b .0; none = go (liveSlot sz tb name) (b .1) }
     where
       go : (f : Found) → lookedUp f ≡ Absent → f ≡ Nothing
       go (At u) r = let z : _≡_ {A = ℕ} 0 1 = cc in absurd (omega arith)
       go Nothing r = refl
 
-  pub live-says : {s : ℕ} → lookup wk tr sz key e ≡ Live s → Holding wk tr sz key e s
+  pub live-says : {s : ℕ} → lookup sz tb name e ≡ Live s → Holding sz tb name e s
   live-says {s} q =
       let b = looked (Live s) q (λ z. let y : _≡_ {A = ℕ} 0 1 = cc in omega arith) in
-      record { newest = b .0; found = go (liveSlot wk tr sz key) (b .1) }
+      record { newest = b .0; found = go (liveSlot sz tb name) (b .1) }
     where
       go : (f : Found) → lookedUp f ≡ Live s → f ≡ At s
       go (At u) r = let z : u ≡ s = cc in rw z
       go Nothing r = let z : _≡_ {A = ℕ} 0 1 = cc in absurd (omega arith)
 
 -- ---- room
-pub room-says : (wk : List ℕ) (n last k s : ℕ) → last < sz .n → room wk n last k ≡ At s → (s < sz .n) × (freeAt wk s ≡ true)
+pub room-says : (sz : Sizes) (tb : Table) (k s : ℕ) → lastTaken (tb .transient) < sz .n → room sz tb k ≡ At s → (s < sz .n) × (freeAt (tb .working) s ≡ true)
 unfolding room
-room-says wk n last k s h e =
+room-says sz tb k s h e =
+    let n = sz .n in
+    let free = freeAt (tb .working) in
     ⊎-elim
-    (λ (y : leb k (freeCount wk n) ≡ true). let q : firstRound (freeAt wk) n last n ≡ At s = rw y at e in round-found (freeAt wk) n last n s h (omega arith) q)
-    (λ (y : leb k (freeCount wk n) ≡ false). let q : Nothing ≡ At s = rw y at e in let z : _≡_ {A = ℕ} 0 1 = cc in absurd (omega arith))
-    (cases (leb k (freeCount wk n)))
+    (λ (y : leb k (count free n) ≡ true). let q : firstRound free n (lastTaken (tb .transient)) n ≡ At s = rw y at e in round-found free n (lastTaken (tb .transient)) n s h (omega arith) q)
+    (λ (y : leb k (count free n) ≡ false). let q : Nothing ≡ At s = rw y at e in let z : _≡_ {A = ℕ} 0 1 = cc in absurd (omega arith))
+    (cases (leb k (count free n)))
 
 -- ---- the same, of the table
 module _ {sz : Sizes} {start : Jobs} {st : Store} {p : Plain} (g : Good sz start st p) where
@@ -96,13 +101,13 @@ module _ {sz : Sizes} {start : Jobs} {st : Store} {p : Plain} (g : Good sz start
 
   -- a slot with something in it is one of the table
   pub filled-in : (m : ℕ) → Filled (slots m .working) → m < sz .n
-  filled-in m f = elim (decLt m n) [ yes h ↦ h | no h ↦ absurd (empty (rw (view-out st sz (p .clock) m (omega arith)) at f)) ]
+  filled-in m f = elim (decLt m (sz .n)) [ yes h ↦ h | no h ↦ absurd (empty (rw (view-out st sz (p .clock) m (omega arith)) at f)) ]
     where
       empty : 1 ≤ 0 → ⊥
       empty h = omega arith
 
-  pub name-is : (m : ℕ) → m < sz .n → slots m .working .name ≡ keyAt (st .working) (sz .n) (sz .w) m
-  name-is m h = rw (view-in st sz (p .clock) m h) (sym (key-contents (st .working) (sz .n) (sz .w) m (omega (arith, g .working .sized .sizes .width-lo))))
+  pub name-is : (m : ℕ) → m < sz .n → slots m .working .name ≡ nameAt (st .working) (sz .n) (sz .w) m
+  name-is m h = rw (view-in st sz (p .clock) m h) (sym (name-contents (st .working) (sz .n) (sz .w) m (omega (arith, g .working .sized .sizes .width-lo))))
 
   kind-hi : (m : ℕ) → m < sz .n → header (st .working) m .kind ≤ 3
   kind-hi m h = rw (view-in st sz (p .clock) m h) at (g .inv .one m .proper .kind-hi)
@@ -117,53 +122,50 @@ module _ {sz : Sizes} {start : Jobs} {st : Store} {p : Plain} (g : Good sz start
       ])
 
   -- refusal 9 passed: no filled slot of this name has a later epoch
-  pub no-later-of : {key e : ℕ} → newer (st .working) n w key e ≡ false → (m : ℕ) → Filled (slots m .working) → slots m .working .name ≡ key → slots m .working .epoch ≤ e
+  pub no-later-of : {name : Name} {e : ℕ} → newer sz (st .working) name e ≡ false → (m : ℕ) → Filled (slots m .working) → slots m .working .name ≡ name → slots m .working .epoch ≤ e
   unfolding newer newerAt
-  no-later-of {key} {e} q m f k =
+  no-later-of {name} {e} q m f k =
       let h = filled-in m f in
       let f′ = rw (view-in st sz (p .clock) m h) at f in
-      let off = some-none (newerAt (st .working) n w key e) n q m h in
+      let off = some-none (newerAt sz (st .working) name e) (sz .n) q m h in
       rw (view-in st sz (p .clock) m h)
       (elim (decLe (header (st .working) m .epoch) e) [
         | yes y ↦ y
-        | no y ↦ never _ (and-both (says-filled (header (st .working) m .kind) f′ (kind-hi m h)) (and-both (eq-eqb _ _ (sym (name-is m h) ∙ k)) (lt-ltb e _ (omega arith)))) off
+        | no y ↦ never _ (and-both (says-filled (header (st .working) m .kind) f′ (kind-hi m h)) (and-both (name-same _ _ (sym (name-is m h) ∙ k)) (lt-ltb e _ (omega arith)))) off
       ])
 
   -- no live job of this name
-  pub no-live-of : {key : ℕ} → liveSlot (st .working) (st .transient) sz key ≡ Nothing → (m : ℕ) → Payload (slots m .working) → slots m .working .name ≡ key → 1 ≤ slots m .retired
+  pub no-live-of : {name : Name} → liveSlot sz (tableOf st) name ≡ Nothing → (m : ℕ) → Payload (slots m .working) → slots m .working .name ≡ name → 1 ≤ slots m .retired
   unfolding liveSlot liveAt
-  no-live-of {key} q m f k =
+  no-live-of {name} q m f k =
       let h = filled-in m (f .0) in
       let f′ = rw (view-in st sz (p .clock) m h) at f in
-      let off = found-nothing (liveAt (st .working) (st .transient) sz key) n q m h in
+      let off = found-nothing (liveAt sz (tableOf st) name) (sz .n) q m h in
       rw (view-in st sz (p .clock) m h)
       (elim (ℕ-discrete (retiredIn sz (st .transient) m) 0) [
-        | yes z ↦ never _ (and-both (says-payload (header (st .working) m .kind) (f′ .0) (f′ .1)) (and-both (eq-eqb _ 0 z) (eq-eqb _ _ (sym (name-is m h) ∙ k)))) off
+        | yes z ↦ never _ (and-both (says-payload (header (st .working) m .kind) (f′ .0) (f′ .1)) (and-both (eq-eqb _ 0 z) (name-same _ _ (sym (name-is m h) ∙ k)))) off
         | no z ↦ omega arith
       ])
 
   -- the live job's slot
-  pub record Lives (key s : ℕ) : Type 0 where
+  pub record Lives (name : Name) (s : ℕ) : Type 0 where
     pub below : s < sz .n
     pub payload : Payload (slots s .working)
     pub current : slots s .retired ≡ 0
-    pub name : slots s .working .name ≡ key
-    pub key-is : keyAt (st .working) (sz .n) (sz .w) s ≡ key
+    pub named : slots s .working .name ≡ name
 
-  pub live-of : {key s : ℕ} → liveSlot (st .working) (st .transient) sz key ≡ At s → Lives key s
+  pub live-of : {name : Name} {s : ℕ} → liveSlot sz (tableOf st) name ≡ At s → Lives name s
   unfolding liveSlot liveAt
-  live-of {key} {s} q =
-      let f = found-first (liveAt (st .working) (st .transient) sz key) n q in
+  live-of {name} {s} q =
+      let f = found-first (liveAt sz (tableOf st) name) (sz .n) q in
       let h = f .below in
       let a = payloadKind (header (st .working) s .kind) in
       let b = eqb (retiredIn sz (st .transient) s) 0 in
       let rest = and-right a _ (f .passes) in
       let pay = payload-says (header (st .working) s .kind) (and-left a _ (f .passes)) in
-      let key-is = eqb-true (keyAt (st .working) (sz .n) (sz .w) s) key (and-right b _ rest) in
       record {
         below = h;
         payload = rw (view-in st sz (p .clock) s h) pay;
         current = rw (view-in st sz (p .clock) s h) (eqb-true _ 0 (and-left b _ rest));
-        name = name-is s h ∙ key-is;
-        key-is = key-is;
+        named = name-is s h ∙ same-name _ _ (and-right b _ rest);
       }

@@ -1,41 +1,39 @@
 -- What demand 3 promises of a cut: where a run may start, what the jobs of an image are, and what recovery gives.
 use Prim.Native.Nat.{ℕ, _+_, _-_, _≤_, _<_}
 use mathlib.Core.Path.{_≡_}
-use mathlib.Core.Bool.{Bool, true, _&&_}
+use mathlib.Core.Bool.{true}
 use mathlib.Core.Logic.{_≢_}
 use mathlib.Core.List.{List, List·Memᴰ}
 use mathlib.Core.Option.{Option, none, some}
-use lib.Dec.{eqb}
 use Rattle.search.specs.First.{firstOf}
 use Rattle.search.specs.declared.Found.{Found}
 use Rattle.search.specs.declared.Found.the-variants.{At, Nothing}
 use Rattle.reply.specs.declared.Check.the-variants.{Accepted}
-use Rattle.image.specs.Layout.{slotsOf, widthOf, clockOf, keyAt, valueAt}
+use Rattle.image.specs.Layout.{slotsOf, widthOf, clockOf, valueAt}
+use Rattle.image.specs.Name.{Name, nameAt}
 use Rattle.transient.specs.Store.{Store}
 use Rattle.survival.specs.Survivors.{survivor}
-use Rattle.changes.specs.Format.{format}
+use Rattle.acceptance.specs.Accept.{survivesAs}
+use Rattle.format.specs.Format.{format}
 use Rattle.recovery.specs.declared.Recovery.the-variants.{Done}
 use Rattle.recovery.specs.Recover.{recover}
 use Rattle.recovery.specs.Completes.{AnyWords, call, Completes}
-use Rattle.crash.specs.Reference.{Name, Value, Jobs, jobsAt}
+use Rattle.crash.specs.Reference.{Value, Jobs, jobsAt}
 use Rattle.guarantee.specs.Trace.{Moment}
 
--- ---- the jobs of an image: its survivors, by key
-unfoldable pub survivesAs : List ℕ → Name → ℕ → Bool
-survivesAs l k s = survivor l (slotsOf l) s && eqb (keyAt l (slotsOf l) (widthOf l) s) k
-
+-- ---- the jobs of an image: its survivors, by name
 abbrev pub valueFound : List ℕ → Found → Option Value
 valueFound l (At s) = some (valueAt l (slotsOf l) (widthOf l) s)
 valueFound l Nothing = none
 
 unfoldable pub jobsOf : List ℕ → Jobs
-jobsOf l k = valueFound l (firstOf (survivesAs l k) (slotsOf l))
+jobsOf l k = valueFound l (firstOf (survivesAs l (slotsOf l) (widthOf l) k) (slotsOf l))
 
 -- "just these: the same keys, each once, the same value words"
 pub record Holds (l : List ℕ) (jobs : Jobs) : Type 0 where
   pub same : (k : Name) → jobsOf l k ≡ jobs k
   pub once : (s t : ℕ) → s < slotsOf l → t < slotsOf l → s ≢ t → survivor l (slotsOf l) s ≡ true → survivor l (slotsOf l) t ≡ true
-      → keyAt l (slotsOf l) (widthOf l) s ≢ keyAt l (slotsOf l) (widthOf l) t
+      → nameAt l (slotsOf l) (widthOf l) s ≢ nameAt l (slotsOf l) (widthOf l) t
 
 -- ---- "what fresh left, or the recover that replied done"
 pub data Started : Store → Type 0 where

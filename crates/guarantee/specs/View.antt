@@ -11,8 +11,11 @@ use native.Mathlib.Omega.{arith}
 use native.Mathlib.Decide.{decLt}
 use Rattle.image.specs.declared.header.Header.{Header}
 use Rattle.image.specs.Layout.{header, contents}
+use Rattle.image.specs.Name.{nameOf}
+use Rattle.transient.specs.declared.sizes.Sizes.{Sizes}
 use Rattle.transient.specs.Store.{Store}
 use Rattle.transient.specs.Layout.{retiredIn, isWaiting}
+use Rattle.epochs.specs.Advance.{reclaimNext, contentsNext, headerNext, clockNext}
 use Rattle.crash.specs.Table.{Put, Put2}
 use Rattle.crash.specs.Slots.{Entry, Slot, Place}
 use Rattle.crash.specs.Steps.{entry}
@@ -21,10 +24,10 @@ abbrev pub flag : Bool → ℕ
 flag b = cond b 1 0
 
 abbrev pub entryOf : Header → List ℕ → Entry
-entryOf h line = entry (h .kind) (h .epoch) (h .uid) (getD line 0 0) (drop 1 line)
+entryOf h words = entry (h .kind) (h .epoch) (h .uid) (nameOf h (getD words 0 0)) (drop 1 words)
 
 -- `before` is the list of c − 1, which is kept where that of c + 1 will be
-abbrev pub slotOf : Store → ℕ → ℕ → ℕ → ℕ → ℕ → Slot
+abbrev pub slotOf : Store → Sizes → ℕ → ℕ → Slot
 slotOf st sz c s =
     record {
       working = entryOf (header (st .working) s) (contents (st .working) (sz .n) (sz .w) s);
@@ -38,26 +41,26 @@ abbrev pub noSlot : Slot
 noSlot = record { working = entry 0 0 0 0 []; persistent = entry 0 0 0 0 []; retired = 0; now = 0; before = 0 }
 
 -- slots out of range are free
-unfoldable pub view : Store → ℕ → ℕ → ℕ → ℕ → ℕ → Slot
-view st sz c s = cond (ltb s n) (slotOf st sz c s) noSlot
+unfoldable pub view : Store → Sizes → ℕ → ℕ → Slot
+view st sz c s = cond (ltb s (sz .n)) (slotOf st sz c s) noSlot
 
 -- how far the advance has come, by the place in the notes
 unfoldable pub progress : ℕ → ℕ → ℕ → Place
-progress (sz .n) phase slot =
+progress n phase slot =
     record {
-      looked = cond (eqb phase 1) slot (cond (leb 2 phase && leb phase 4) n 0);
-      flushed = cond (eqb phase 2) slot (cond (eqb phase 3) slot (cond (eqb phase 4) n 0));
-      half = cond (eqb phase 3) 1 0;
+      looked = cond (eqb phase reclaimNext) slot (cond (leb contentsNext phase && leb phase clockNext) n 0);
+      flushed = cond (eqb phase contentsNext) slot (cond (eqb phase headerNext) slot (cond (eqb phase clockNext) n 0));
+      half = cond (eqb phase headerNext) 1 0;
     }
 
 module _ (st : Store) (sz : Sizes) (c : ℕ) where
   pub view-in : (s : ℕ) → s < sz .n → view st sz c s ≡ slotOf st sz c s
   unfolding view
-  view-in s h = rw (lt-ltb s n h)
+  view-in s h = rw (lt-ltb s (sz .n) h)
 
   pub view-out : (s : ℕ) → sz .n ≤ s → view st sz c s ≡ noSlot
   unfolding view
-  view-out s h = rw (le-ltb s n h)
+  view-out s h = rw (le-ltb s (sz .n) h)
 
 -- ---- from slots to tables
 module _ (a b : Store) (sz : Sizes) (c : ℕ) where
@@ -67,9 +70,9 @@ module _ (a b : Store) (sz : Sizes) (c : ℕ) where
 
   pub same-view : (m : ℕ) → (m < sz .n → Alike m) → view b sz c m ≡ view a sz c m
   unfolding view
-  same-view m h = elim (decLt m n) [
-    | yes q ↦ rw (lt-ltb m n q) (h q)
-    | no q ↦ rw (le-ltb m n (omega arith))
+  same-view m h = elim (decLt m (sz .n)) [
+    | yes q ↦ rw (lt-ltb m (sz .n) q) (h q)
+    | no q ↦ rw (le-ltb m (sz .n) (omega arith))
   ]
 
   pub view-put : (s : ℕ) (x : Slot) → s < sz .n → slotOf b sz c s ≡ x → ((m : ℕ) → m < sz .n → m ≢ s → Alike m)

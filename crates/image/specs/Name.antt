@@ -68,3 +68,8 @@ named-not a e = ne-eqb (keyOf a) 0 e
 
 pub name-dec : Discrete Name
 name-dec = ℕ-discrete
+
+-- a header and a key make the name
+pub name-kept : (l l′ : List ℕ) (n w s : ℕ) → header l′ s ≡ header l s → keyAt l′ n w s ≡ keyAt l n w s → nameAt l′ n w s ≡ nameAt l n w s
+unfolding nameAt
+name-kept l l′ n w s h k = λ i. nameOf (h i) (k i)

@@ -15,12 +15,14 @@ use Rattle.search.specs.declared.Found.the-variants.{At, Nothing}
 use Rattle.reply.specs.declared.Check.{Check}
 use Rattle.reply.specs.declared.Check.the-variants.{Accepted, Refused}
 use Rattle.reply.specs.declared.Refusal.{Refusal}
-use Rattle.image.specs.Layout.{header, slotsOf, setHeader, freeHeader}
-use Rattle.transient.specs.Store.{Store, store}
+use Rattle.image.specs.Layout.{header, slotsOf, freeHeader}
+use Rattle.image.specs.Line.{headerLine, storeLine}
+use Rattle.transient.specs.Store.{Store, store, Outcome, afterCheck}
 use Rattle.survival.specs.Survivors.{survivor}
 use Rattle.acceptance.specs.Accept.{imageCheck}
-use Rattle.recovery.specs.Recover.{nextFreed, lengthsFit, recoverEntryCheck, recoverCheck, Recovered, finished, freeing, judged, recover}
+use Rattle.recovery.specs.Recover.{nextFreed, lengthsFit, recoverEntryCheck, recoverCheck, finished, freeing, recover}
 use Rattle.recovery.specs.Steps.{SameSurvivors, filledAt, step-keeps, step-accepted, step-lowers, done-survivors}
+use Rattle.recovery.specs.declared.Recovery.{Recovery}
 use Rattle.recovery.specs.declared.Recovery.the-variants.{WentOn, Done, Declined}
 
 -- "working and notes hold any words. So too in recovery": what they hold before call i, of lengths that fit the lasting image l
@@ -34,7 +36,7 @@ unfoldable pub lasting : {l : List ℕ} → AnyWords l → ℕ → List ℕ
 lasting {l} any zero = l
 lasting any (suc i) = recover (store (any .working i) (lasting any i) (any .transient i)) .store .persistent
 
-unfoldable pub call : {l : List ℕ} → AnyWords l → ℕ → Recovered
+unfoldable pub call : {l : List ℕ} → AnyWords l → ℕ → Outcome Recovery
 call any i = recover (store (any .working i) (lasting any i) (any .transient i))
 
 -- recovery "completes when no recover call declines and at most N reply went on before one replies done": `before` calls go on
@@ -92,7 +94,7 @@ record OnTheWay (l : List ℕ) (i : ℕ) (l′ : List ℕ) : Type 0 where
 setting-out : (l : List ℕ) → imageCheck l ≡ Accepted → OnTheWay l 0 l
 setting-out l ok = record { same = same-refl l; ok = ok; lowered = omega arith }
 
-one-further : {l l′ : List ℕ} {i s : ℕ} → OnTheWay l i l′ → nextFreed l′ (slotsOf l′) ≡ At s → OnTheWay l (suc i) (setHeader l′ s freeHeader)
+one-further : {l l′ : List ℕ} {i s : ℕ} → OnTheWay l i l′ → nextFreed l′ (slotsOf l′) ≡ At s → OnTheWay l (suc i) (storeLine l′ (headerLine s freeHeader))
 one-further {l} {l′} {i} {s} o next =
     let down = rw (o .same .slots) at (step-lowers l′ s (o .ok) next) in
     record {
@@ -185,6 +187,9 @@ recover-keeps st r = go (recoverCheck st)
     freed (At s) d = let z : _≡_ {A = ℕ} 0 1 = cc in absurd (omega arith)
     freed Nothing d = let z : _≡_ {A = ℕ} 0 1 = cc in absurd (omega arith)
 
-    go : (k : Check) → judged k st (slotsOf (st .persistent)) .reply ≡ Declined r → judged k st (slotsOf (st .persistent)) .store ≡ st
+    next : Outcome Recovery
+    next = freeing (nextFreed (st .persistent) (slotsOf (st .persistent))) st (slotsOf (st .persistent))
+
+    go : (k : Check) → afterCheck k Declined st next .reply ≡ Declined r → afterCheck k Declined st next .store ≡ st
     go (Refused q) d = refl
     go Accepted d = freed (nextFreed (st .persistent) (slotsOf (st .persistent))) d

@@ -1,5 +1,5 @@
 pub mod Recover
-pub mod Code
 pub mod Freed
 pub mod Steps
 pub mod Completes
+pub mod Exits

@@ -10,10 +10,11 @@ use Rattle.search.specs.declared.Found.{Found}
 use Rattle.search.specs.declared.Found.the-variants.{At, Nothing}
 use Rattle.reply.specs.declared.Check.{Check}
 use Rattle.reply.specs.declared.Check.the-variants.{Accepted, Refused}
-use Rattle.reply.specs.declared.Refusal.the-variants.{Sizes}
+use Rattle.reply.specs.declared.Refusal.the-variants.{BadSizes}
 use Rattle.reply.specs.Refusals.{refuse, andThen, declinedNumber}
-use Rattle.image.specs.Layout.{filledKind, header, slotsOf, widthOf, clockOf, setHeader, freeHeader}
-use Rattle.transient.specs.Store.{Store, store}
+use Rattle.image.specs.Layout.{filledKind, header, slotsOf, widthOf, clockOf, freeHeader}
+use Rattle.image.specs.Line.{headerLine, storeLine}
+use Rattle.transient.specs.Store.{Store, store, Outcome, outcome, afterCheck}
 use Rattle.transient.specs.Layout.{threadsOk, blank}
 use Rattle.survival.specs.Survivors.{survivor, keptAnti}
 use Rattle.acceptance.specs.Accept.{headCheck, slotsCheck}
@@ -49,7 +50,7 @@ lengthsFit working l transient = eqb working (length l) && threadsOk transient (
 
 -- refusals 1 and 2 of recover
 unfoldable pub recoverEntryCheck : ℕ → List ℕ → ℕ → Check
-recoverEntryCheck working l transient = refuse (not (lengthsFit working l transient)) Sizes (headCheck l)
+recoverEntryCheck working l transient = refuse (not (lengthsFit working l transient)) BadSizes (headCheck l)
 
 unfoldable pub recoverCheck : Store → Check
 recoverCheck st =
@@ -57,28 +58,18 @@ recoverCheck st =
     (recoverEntryCheck (length (st .working)) (st .persistent) (length (st .transient)))
     (slotsCheck (st .persistent) (slotsOf (st .persistent)) (widthOf (st .persistent)))
 
-pub record Recovered : Type 0 where
-  pub reply : Recovery
-  pub store : Store
-
-abbrev pub recovered : Recovery → List ℕ → List ℕ → List ℕ → Recovered
-recovered r w p t = record { reply = r; store = store w p t }
-
 -- "frees the next such mark, leaves working and notes alone and replies went on. The call that finds none to free replies done;
--- only there does working become a copy and are the notes set." A recovered store's search begins at slot 0, after the last.
+-- only there does working become a copy and are the notes set."
 unfoldable pub finished : List ℕ → ℕ → ℕ → Store
-finished l transient n = store l l (blank transient (n - 1) (nextUid l n))
+finished l transient n = store l l (blank transient n (nextUid l n))
 
-abbrev pub freeing : Found → Store → ℕ → Recovered
-freeing (At s) st n = recovered WentOn (st .working) (setHeader (st .persistent) s freeHeader) (st .transient)
+abbrev pub freeing : Found → Store → ℕ → Outcome Recovery
+freeing (At s) st n = outcome WentOn (st .working) (storeLine (st .persistent) (headerLine s freeHeader)) (st .transient)
 freeing Nothing st n = record { reply = Done; store = finished (st .persistent) (length (st .transient)) n }
 
-abbrev pub judged : Check → Store → ℕ → Recovered
-judged (Refused r) st n = record { reply = Declined r; store = st }
-judged Accepted st n = freeing (nextFreed (st .persistent) n) st n
-
-unfoldable pub recover : Store → Recovered
-recover st = judged (recoverCheck st) st (slotsOf (st .persistent))
+unfoldable pub recover : Store → Outcome Recovery
+recover st =
+    afterCheck (recoverCheck st) Declined st (freeing (nextFreed (st .persistent) (slotsOf (st .persistent))) st (slotsOf (st .persistent)))
 
 -- the reply as one number: 0 went on, 1 done, or 2^32 plus the refusal
 abbrev pub recoveryNumber : Recovery → ℕ

@@ -1,26 +1,28 @@
 -- A step of recovery keeps acceptance and the survivors and lowers the number of filled slots; at "done" just survivors are left.
 -- The slot it frees is covered (`Freed`): a stale one by what beat it, a kept DELETE because no payload of its uid is left.
 use Prim.Native.Nat.{ℕ, _+_, _<_}
-use mathlib.Core.Path.{_≡_, refl, sym, _∙_}
-use mathlib.Core.Bool.{Bool, true, false, not}
+use mathlib.Core.Path.{_≡_, refl, sym, ap, _∙_}
+use mathlib.Core.Bool.{Bool, true, false, not, _&&_}
 use mathlib.Core.Logic.{_≢_}
 use mathlib.Core.List.{List}
 use lib.ListN.{length}
-use borrow.Author.Tests.{eq-eqb, not-true, not-false}
+use borrow.Author.Tests.{not-true, not-false}
 use native.Mathlib.Omega.{arith}
 use native.Mathlib.Decide.{decLt}
-use Rattle.search.specs.Bools.{never, upheld, same-test, and-left, and-right, and-both}
+use Rattle.search.specs.Bools.{never, upheld, refuted, same-test, and-left, and-right, and-both}
 use Rattle.search.specs.First.{firstOf, First, found-first, found-nothing}
 use Rattle.search.specs.Some.{some-at, some-same}
 use Rattle.search.specs.Count.{count, count-down}
 use Rattle.search.specs.declared.Found.{Found}
 use Rattle.search.specs.declared.Found.the-variants.{At, Nothing}
 use Rattle.reply.specs.declared.Check.the-variants.{Accepted}
-use Rattle.image.specs.Layout.{filledKind, header, contents, keyAt, valueAt, slotsOf, widthOf, clockOf, setHeader, freeHeader}
-use Rattle.image.specs.Laws.{length-setHeader, front-setHeader, header-same, header-other, contents-setHeader, key-setHeader, value-setHeader, sized-after}
-use Rattle.image.specs.Code.{header-fits}
+use Rattle.image.specs.Layout.{filledKind, header, contents, keyAt, valueAt, slotsOf, widthOf, clockOf, freeHeader}
+use Rattle.image.specs.Line.{headerLine, storeLine}
+use Rattle.image.specs.Name.{Name, Named, nameAt, sameName, unnamed, name-same, unnamed-false, name-kept}
+use Rattle.image.specs.Requires.{header-fits, sized-after}
+use Rattle.image.specs.Laws.{length-store, front-past-header, header-same, header-other, contents-past-header, key-past-header, value-past-header}
 use Rattle.survival.specs.Survivors.{survivor}
-use Rattle.acceptance.specs.Accept.{nameless, survivesAs, keyBelow, imageCheck}
+use Rattle.acceptance.specs.Accept.{nameless, survivesAs, nameBelow, imageCheck}
 use Rattle.recovery.specs.Recover.{antiAt, stale, nextFreed}
 use Rattle.acceptance.specs.Sound.{accepted-says, says-accepted}
 use Rattle.recovery.specs.Freed.{Freed, Covered, anti-says, survives-filled, kept-filled, freed-survives, freed-proper, freed-versions, stale-covered, anti-dies, anti-covered}
@@ -87,61 +89,73 @@ next-spent l n s e = go (firstOf (stale l n) n) refl
 
 -- ---- one step
 module _ (l : List ℕ) (s : ℕ) (ok : imageCheck l ≡ Accepted) (next : nextFreed l (slotsOf l) ≡ At s) where
-  freed : Freed (header l) (header (setHeader l s freeHeader)) s
+  freed : Freed (header l) (header (storeLine l (headerLine s freeHeader))) s
   freed =
       record {
         here = header-same freeHeader (header-fits (accepted-says l ok .sized) (next-spent l (slotsOf l) s next .below));
         there = λ t d. header-other l s t freeHeader d;
       }
 
-  pub step-keeps : SameSurvivors l (setHeader l s freeHeader)
+  pub step-keeps : SameSurvivors l (storeLine l (headerLine s freeHeader))
   unfolding survivor
   step-keeps =
       let n = slotsOf l in
       let p = next-spent l n s next in
-      let clock : clockOf (setHeader l s freeHeader) ≡ clockOf l = front-setHeader l s 2 freeHeader (omega arith) in
+      let clock : clockOf (storeLine l (headerLine s freeHeader)) ≡ clockOf l = front-past-header l s 2 freeHeader (omega arith) in
       record {
-        long = length-setHeader l s freeHeader;
-        slots = front-setHeader l s 0 freeHeader (omega arith);
-        width = front-setHeader l s 1 freeHeader (omega arith);
+        long = length-store l (headerLine s freeHeader);
+        slots = front-past-header l s 0 freeHeader (omega arith);
+        width = front-past-header l s 1 freeHeader (omega arith);
         clock = clock;
         survivors = λ t h. rw clock (freed-survives (clockOf l) freed n (p .dies) (p .covered) t h);
         headers = λ t h v. header-other l s t freeHeader (λ e. never _ (rw e at v) (p .dies));
-        lines = λ t. contents-setHeader l n (widthOf l) s t freeHeader (p .below);
-        keys = λ t. key-setHeader l n (widthOf l) s t freeHeader (p .below);
-        values = λ t. value-setHeader l n (widthOf l) s t freeHeader (p .below);
+        lines = λ t. contents-past-header l n (widthOf l) s t freeHeader (p .below);
+        keys = λ t. key-past-header l n (widthOf l) s t freeHeader (p .below);
+        values = λ t. value-past-header l n (widthOf l) s t freeHeader (p .below);
       }
 
-  pub step-lowers : count (filledAt l) (slotsOf l) ≡ count (filledAt (setHeader l s freeHeader)) (slotsOf l) + 1
+  pub step-lowers : count (filledAt l) (slotsOf l) ≡ count (filledAt (storeLine l (headerLine s freeHeader))) (slotsOf l) + 1
   unfolding filledAt filledKind
   step-lowers =
       let p = next-spent l (slotsOf l) s next in
-      count-down (filledAt l) (filledAt (setHeader l s freeHeader)) (slotsOf l) s (p .below) (p .filled)
+      count-down (filledAt l) (filledAt (storeLine l (headerLine s freeHeader))) (slotsOf l) s (p .below) (p .filled)
       (rw (freed .here))
       (λ t h d. rw (freed .there t d))
 
+and-under : (b x y : Bool) → (b ≡ true → x ≡ y) → b && x ≡ b && y
+and-under true x y h = h refl
+and-under false x y h = refl
+
 -- ---- acceptance goes by the survivors, but for properness and versions
 module _ {l l′ : List ℕ} (same : SameSurvivors l l′) where
+  -- a survivor keeps its name
+  name-same-at : (s : ℕ) → s < slotsOf l → survivor l (slotsOf l) s ≡ true → nameAt l′ (slotsOf l) (widthOf l) s ≡ nameAt l (slotsOf l) (widthOf l) s
+  name-same-at s h v = name-kept l l′ (slotsOf l) (widthOf l) s (same .headers s h v) (same .keys s)
+
   named-same : (s : ℕ) → s < slotsOf l → nameless l′ (slotsOf l) (widthOf l) s ≡ nameless l (slotsOf l) (widthOf l) s
   unfolding nameless
-  named-same s h = rw (same .survivors s h, same .keys s)
+  named-same s h = rw (same .survivors s h) (and-under (survivor l (slotsOf l) s) _ _ (λ v. ap unnamed (name-same-at s h v)))
 
-  keys-same : (s : ℕ) → s < slotsOf l → keyBelow l′ (slotsOf l) (widthOf l) s ≡ keyBelow l (slotsOf l) (widthOf l) s
-  unfolding keyBelow survivesAs
-  keys-same s h =
+  pub survives-same : (name : Name) (t : ℕ) → t < slotsOf l → survivesAs l′ (slotsOf l) (widthOf l) name t ≡ survivesAs l (slotsOf l) (widthOf l) name t
+  unfolding survivesAs
+  survives-same name t h = rw (same .survivors t h) (and-under (survivor l (slotsOf l) t) _ _ (λ v. ap (λ (k : Name). sameName k name) (name-same-at t h v)))
+
+  names-same : (s : ℕ) → s < slotsOf l → nameBelow l′ (slotsOf l) (widthOf l) s ≡ nameBelow l (slotsOf l) (widthOf l) s
+  unfolding nameBelow
+  names-same s h =
       let n = slotsOf l in
       let w = widthOf l in
-      let k = keyAt l n w s in
-      let below = some-same (survivesAs l′ n w k) (survivesAs l n w k) s (λ t u. rw (same .survivors t (omega arith), same .keys t)) in
-      rw (same .survivors s h, same .keys s, below)
+      let k = nameAt l n w s in
+      let below = some-same (survivesAs l′ n w k) (survivesAs l n w k) s (λ t u. survives-same k t (omega arith)) in
+      rw (same .survivors s h) (and-under (survivor l n s) _ _ (λ v. rw (name-same-at s h v) below))
 
-pub step-accepted : (l : List ℕ) (s : ℕ) → imageCheck l ≡ Accepted → nextFreed l (slotsOf l) ≡ At s → imageCheck (setHeader l s freeHeader) ≡ Accepted
+pub step-accepted : (l : List ℕ) (s : ℕ) → imageCheck l ≡ Accepted → nextFreed l (slotsOf l) ≡ At s → imageCheck (storeLine l (headerLine s freeHeader)) ≡ Accepted
 step-accepted l s ok next =
     let same = step-keeps l s ok next in
     let f = freed l s ok next in
     let was = accepted-says l ok in
     let before = was .sound in
-    says-accepted (setHeader l s freeHeader)
+    says-accepted (storeLine l (headerLine s freeHeader))
     record {
       sized = rw (same .slots, same .width) (sized-after (same .long) (was .sized));
       clock-lo = rw (same .clock) (was .clock-lo);
@@ -152,7 +166,7 @@ step-accepted l s ok next =
             all-proper = λ t h. rw (same .clock) (freed-proper (clockOf l) f t (before .all-proper t h));
             named = λ t h. named-same same t h ∙ before .named t h;
             versions = λ t h. rw (same .clock) (freed-versions (clockOf l) f t (before .versions t h));
-            keys = λ t h. keys-same same t h ∙ before .keys t h;
+            names = λ t h. names-same same t h ∙ before .names t h;
           };
     }
 
@@ -175,24 +189,24 @@ done-survivors l e s h =
     (λ f. upheld (survivor l n s) (λ d. never _ (none-stale l n s (none .0) f d) (none .1)))
 
 -- ---- survivors have names, and different ones
-pub survivor-named : (l : List ℕ) → imageCheck l ≡ Accepted → (s : ℕ) → s < slotsOf l → survivor l (slotsOf l) s ≡ true → keyAt l (slotsOf l) (widthOf l) s ≢ 0
+pub survivor-named : (l : List ℕ) → imageCheck l ≡ Accepted → (s : ℕ) → s < slotsOf l → survivor l (slotsOf l) s ≡ true → Named (nameAt l (slotsOf l) (widthOf l) s)
 unfolding nameless
-survivor-named l ok s h v e =
-    never (nameless l (slotsOf l) (widthOf l) s) (and-both v (eq-eqb _ 0 e)) (accepted-says l ok .sound .named s h)
+survivor-named l ok s h v =
+    unnamed-false (nameAt l (slotsOf l) (widthOf l) s) (refuted _ (λ e. never (nameless l (slotsOf l) (widthOf l) s) (and-both v e) (accepted-says l ok .sound .named s h)))
 
-key-once : (l : List ℕ) → imageCheck l ≡ Accepted → (s t : ℕ) → s < slotsOf l → t < s → survivor l (slotsOf l) s ≡ true → survivor l (slotsOf l) t ≡ true
-    → keyAt l (slotsOf l) (widthOf l) t ≢ keyAt l (slotsOf l) (widthOf l) s
-unfolding keyBelow survivesAs
-key-once l ok s t h u v x e =
+name-once : (l : List ℕ) → imageCheck l ≡ Accepted → (s t : ℕ) → s < slotsOf l → t < s → survivor l (slotsOf l) s ≡ true → survivor l (slotsOf l) t ≡ true
+    → nameAt l (slotsOf l) (widthOf l) t ≢ nameAt l (slotsOf l) (widthOf l) s
+unfolding nameBelow survivesAs
+name-once l ok s t h u v x e =
     let n = slotsOf l in
     let w = widthOf l in
-    let below = some-at (survivesAs l n w (keyAt l n w s)) s t u (and-both x (eq-eqb _ _ e)) in
-    never (keyBelow l n w s) (and-both v below) (accepted-says l ok .sound .keys s h)
+    let below = some-at (survivesAs l n w (nameAt l n w s)) s t u (and-both x (name-same _ _ e)) in
+    never (nameBelow l n w s) (and-both v below) (accepted-says l ok .sound .names s h)
 
 pub survivors-apart : (l : List ℕ) → imageCheck l ≡ Accepted → (s t : ℕ) → s < slotsOf l → t < slotsOf l → s ≢ t → survivor l (slotsOf l) s ≡ true
-    → survivor l (slotsOf l) t ≡ true → keyAt l (slotsOf l) (widthOf l) s ≢ keyAt l (slotsOf l) (widthOf l) t
+    → survivor l (slotsOf l) t ≡ true → nameAt l (slotsOf l) (widthOf l) s ≢ nameAt l (slotsOf l) (widthOf l) t
 survivors-apart l ok s t h k d v x e =
     elim (decLt s t) [
-      | yes u ↦ key-once l ok t s k u x v e
-      | no u ↦ key-once l ok s t h (omega arith) v x (sym e)
+      | yes u ↦ name-once l ok t s k u x v e
+      | no u ↦ name-once l ok s t h (omega arith) v x (sym e)
     ]
