@@ -8,3 +8,7 @@ pub mod Frame
 pub mod Changing
 pub mod Lookups
 pub mod Making
+pub mod Superseding
+pub mod Replacing
+pub mod Opening
+pub mod Stepping

@@ -174,6 +174,9 @@ module _ (tr : List ℕ) (z : Sizes) where
     pub open-slots : thread < z .t → (m : ℕ) → SlotKept z tr (setOpen tr thread e) m
     open-slots h = slot-kept (open-only tr thread e) z (omega arith)
 
+    pub open-long : length (setOpen tr thread e) ≡ length tr
+    open-long = open-only tr thread e .long
+
     pub open-phase : placePhase (setOpen tr thread e) ≡ placePhase tr
     open-phase = open-only tr thread e .words phaseAt (inl (omega arith))
 
@@ -184,6 +187,9 @@ module _ (tr : List ℕ) (z : Sizes) where
     open-uid = uid-kept (open-only tr thread e) (inr (omega arith))
 
   module _ (phase slot : ℕ) where
+    pub place-long : length (setPlace tr phase slot) ≡ length tr
+    place-long = place-only tr phase slot .long
+
     pub place-opens : (thread : ℕ) → openEpoch (setPlace tr phase slot) thread ≡ openEpoch tr thread
     place-opens thread = place-only tr phase slot .words (openAt thread) (inr (omega arith))
 

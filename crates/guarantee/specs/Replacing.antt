@@ -1,0 +1,189 @@
+-- Set and delete keep the invariant: in the version's own slot, or by a later version.
+use Prim.Native.Nat.{ℕ, _+_, _-_, _≤_, _<_}
+use mathlib.Core.Path.{_≡_, refl, sym, _∙_}
+use mathlib.Core.Bool.{true, false}
+use mathlib.Core.Logic.{_≢_, ⊎-elim}
+use mathlib.Core.List.{List, []}
+use lib.ListN.{length, getD, drop, replicate, length-replicate}
+use lib.Dec.{eqb}
+use borrow.Author.Tests.{eqb-true, eqb-false}
+use native.Mathlib.Omega.{arith}
+use Rattle.search.specs.Bools.{cases}
+use Rattle.reply.specs.declared.Refusal.the-variants.{Newer, NoJob}
+use Rattle.image.specs.Layout.{header, contents, keyAt, freeHeader, antiHeader}
+use Rattle.image.specs.Laws.{key-contents}
+use Rattle.image.specs.Name.{jobName, nameOf}
+use Rattle.transient.specs.declared.sizes.Sizes.{Sizes}
+use Rattle.transient.specs.Layout.{lastTaken, openEpoch, retiredIn}
+use Rattle.transient.specs.Store.{Store, store, table}
+use Rattle.table.specs.declared.find.Lookup.{Lookup}
+use Rattle.table.specs.declared.find.Lookup.the-variants as look
+use Rattle.table.specs.Find.{newer, lookup}
+use Rattle.jobs.specs.Job.{Job, job, badJob}
+use Rattle.job_set.specs.Set.{rewritten, updated, setAt, setLooked, setOpened, setSized, setJob}
+use Rattle.job_delete.specs.Delete.{freedAt, turned, covered, deleteAt, deleteLooked, deleteOpen, deleteSized, deleteJob}
+use Rattle.crash.specs.Table.{Put}
+use Rattle.crash.specs.Reference as ref
+use Rattle.crash.specs.Reference.{Jobs, Value}
+use Rattle.crash.specs.Slots.{Entry, Slot, State}
+use Rattle.crash.specs.Steps as steps
+use Rattle.crash.specs.Steps.{entry, Current, Joins, InPlace}
+use Rattle.crash.specs.InPlace.{set-inv}
+use Rattle.crash.specs.Turn.{turn-inv}
+use Rattle.crash.specs.Unmake.{unmake-inv}
+use Rattle.guarantee.specs.Trace.{Plain, toldChange}
+use Rattle.guarantee.specs.View.{view, slotOf, view-in}
+use Rattle.guarantee.specs.Good.{stateOf, Good}
+use Rattle.guarantee.specs.Notes.{waiting-joins, joined-joins}
+use Rattle.guarantee.specs.Images.{wrote-image, header-wrote, value-wrote}
+use Rattle.guarantee.specs.Frame.{operation-of, change-put, change-joins, good-change, row-epoch}
+use Rattle.guarantee.specs.Lookups.{Holding, Lives, live-says, live-of, no-later-of}
+use Rattle.guarantee.specs.Changing.{Fine, fine-refused, fine-way, fine-call, last-below, bad-words}
+use Rattle.guarantee.specs.Superseding.{super-fine}
+
+-- ---- in place, with the entry, the retirement and the name as the call has them
+in-place-as : {x y : Entry} {e r now before rr : ℕ} {st : State} {f : ℕ → Slot} → x ≡ y → rr ≡ st .slots r .retired → Current e r st
+    → Joins (st .clock) e now before (st .slots r) → st .slots r .working .epoch ≡ e
+    → Put (st .slots) f r (record { working = x; persistent = st .slots r .persistent; retired = rr; now = now; before = before })
+    → InPlace y e r now before st f
+in-place-as a b c j q put = record { of = c; joins = j; epoch-is = q; put = rw (a, b) at put }
+
+module _ {sz : Sizes} {start : Jobs} {wk l tr : List ℕ} {p : Plain} (thread key s : ℕ) (g : Good sz start (store wk l tr) p)
+    (within : thread < sz .t) (begun : openEpoch tr thread ≢ 0) (lives : Lives g (jobName key) s) where
+  abbrev e : ℕ
+  e = openEpoch tr thread
+
+  abbrev old : Slot
+  old = view (store wk l tr) sz (p .clock) s
+
+  at-slot : old ≡ slotOf (store wk l tr) sz (p .clock) s
+  at-slot = view-in (store wk l tr) sz (p .clock) s (lives .below)
+
+  current : Current e s (stateOf sz start (store wk l tr) p)
+  current = record { operation = operation-of g thread within begun; payload = lives .payload; current = lives .current }
+
+  abbrev words : List ℕ
+  words = contents wk (sz .n) (sz .w) s
+
+  module _ (same : header wk s .epoch ≡ e) where
+    epoch-is : old .working .epoch ≡ e
+    epoch-is = rw at-slot same
+
+    rewritten-fine : (v : Value) → length v + 1 ≡ sz .w → Fine sz start l p ref.altered thread (jobName key) v (rewritten sz (table wk tr) e s v)
+    unfolding rewritten
+    rewritten-fine v long =
+        let a = value-wrote {sz = sz} (g .working .sized) (lives .below) v long in
+        let j = waiting-joins (g .notes) e s (lives .below) in
+        let x : entry (header wk s .kind) (header wk s .epoch) (header wk s .uid) (nameOf (header wk s) (keyAt wk (sz .n) (sz .w) s)) v ≡ steps.revalued v (old .working) =
+        rw (at-slot, key-contents wk (sz .n) (sz .w) s (omega (arith, g .working .sized .sizes .width-lo))) in
+        let r : retiredIn sz tr s ≡ old .retired = rw at-slot in
+        record {
+          good = good-change g (wrote-image a (g .working)) (j .head) (j .uid) (row-epoch g ref.altered thread (jobName key) v within)
+              (rw (lives .named) at (set-inv (g .inv) (in-place-as x r current (change-joins g a j (lives .below)) epoch-is (change-put g a j (lives .below)))));
+        }
+
+    turned-fine : Fine sz start l p ref.dropped thread (jobName key) [] (turned sz (table wk tr) e s)
+    unfolding turned
+    turned-fine =
+        let h = antiHeader e (header wk s .uid) in
+        let a = header-wrote (g .working .sized) (lives .below) h in
+        let j = waiting-joins (g .notes) e s (lives .below) in
+        let x : entry 3 e (header wk s .uid) (nameOf h (getD words 0 0)) (drop 1 words) ≡ steps.turned (old .working) = rw (at-slot, same) in
+        let r : retiredIn sz tr s ≡ old .retired = rw at-slot in
+        record {
+          good = good-change g (wrote-image a (g .working)) (j .head) (j .uid) (row-epoch g ref.dropped thread (jobName key) [] within)
+              (rw (lives .named) at (turn-inv [] (g .inv) (in-place-as x r current (change-joins g a j (lives .below)) epoch-is (change-put g a j (lives .below)))));
+        }
+
+    freed-fine : header wk s .kind ≡ 1 → Fine sz start l p ref.dropped thread (jobName key) [] (freedAt sz (table wk tr) e s)
+    unfolding freedAt
+    freed-fine alloc =
+        let a = header-wrote (g .working .sized) (lives .below) freeHeader in
+        let j = joined-joins (g .notes) e s (lives .below) in
+        let x : entry 0 0 0 (nameOf freeHeader (getD words 0 0)) (drop 1 words) ≡ steps.freed (old .working) = rw at-slot in
+        let one : old .working .kind ≡ 1 = rw at-slot alloc in
+        record {
+          good = good-change g (wrote-image a (g .working)) (j .head) (j .uid) (row-epoch g ref.dropped thread (jobName key) [] within)
+              (rw (lives .named) at (unmake-inv [] (g .inv) record {
+                change = in-place-as x (sym (lives .current)) current (change-joins g a j (lives .below)) epoch-is (change-put g a j (lives .below));
+                alloc = one;
+              }));
+        }
+
+  -- ---- an older version gives way
+  module _ (newest : newer sz wk (jobName key) e ≡ false) (other : header wk s .epoch ≢ e) where
+    older : header wk s .epoch < e
+    older = let q : header wk s .epoch ≤ e = rw at-slot at (no-later-of g newest s (lives .payload .0) (lives .named)) in omega arith
+
+    updated-fine : lastTaken tr < sz .n → (v : Value) → length v + 1 ≡ sz .w → Fine sz start l p ref.altered thread (jobName key) v (updated sz (table wk tr) e s (job key v))
+    unfolding updated
+    updated-fine h v long = super-fine thread key s (steps.updates v) g within begun long lives older 2 h
+
+    covered-fine : lastTaken tr < sz .n → Fine sz start l p ref.dropped thread (jobName key) [] (covered sz (table wk tr) e s key)
+    unfolding covered
+    covered-fine h =
+        let zeros : Value = replicate (sz .w - 1) 0 in
+        let long : length zeros + 1 ≡ sz .w = omega (arith, length-replicate {A = ℕ} (sz .w - 1) 0, g .working .sized .sizes .width-lo) in
+        super-fine thread key s (steps.removes zeros []) g within begun long lives older 1 h
+
+-- ---- by what the look-up finds: 9 and 10
+module _ {sz : Sizes} {start : Jobs} {wk l tr : List ℕ} {p : Plain} (thread : ℕ) (g : Good sz start (store wk l tr) p)
+    (within : thread < sz .t) (begun : openEpoch tr thread ≢ 0) (last : lastTaken tr < sz .n) where
+  abbrev ep : ℕ
+  ep = openEpoch tr thread
+
+  set-at-fine : (s : ℕ) (j : Job) → length (j .value) + 1 ≡ sz .w → Holding sz (table wk tr) (jobName (j .key)) ep s
+      → Fine sz start l p ref.altered thread (jobName (j .key)) (j .value) (setAt sz (table wk tr) ep s j)
+  unfolding setAt
+  set-at-fine s j long h =
+      let lives = live-of g (h .found) in
+      ⊎-elim
+      (λ (a : eqb (header wk s .epoch) ep ≡ true). rw a (rewritten-fine thread (j .key) s g within begun lives (eqb-true _ _ a) (j .value) long))
+      (λ (a : eqb (header wk s .epoch) ep ≡ false). rw a (updated-fine thread (j .key) s g within begun lives (h .newest) (eqb-false _ _ a) last (j .value) long))
+      (cases (eqb (header wk s .epoch) ep))
+
+  pub set-opened-fine : (j : Job) → length (j .value) + 1 ≡ sz .w → Fine sz start l p ref.altered thread (jobName (j .key)) (j .value) (setOpened sz (table wk tr) j ep)
+  unfolding setOpened
+  set-opened-fine j long = go (lookup sz (table wk tr) (jobName (j .key)) ep) refl
+    where
+      go : (k : Lookup) → lookup sz (table wk tr) (jobName (j .key)) ep ≡ k → Fine sz start l p ref.altered thread (jobName (j .key)) (j .value) (setLooked k sz (table wk tr) ep j)
+      go look.Later q = fine-refused g Newer
+      go (look.Live s) q = set-at-fine s j long (live-says sz (table wk tr) (jobName (j .key)) ep q)
+      go look.Absent q = fine-refused g NoJob
+
+  delete-at-fine : (s key : ℕ) → Holding sz (table wk tr) (jobName key) ep s → Fine sz start l p ref.dropped thread (jobName key) [] (deleteAt sz (table wk tr) ep s key)
+  unfolding deleteAt
+  delete-at-fine s key h =
+      let lives = live-of g (h .found) in
+      ⊎-elim
+      (λ (a : eqb (header wk s .epoch) ep ≡ true).
+      ⊎-elim
+      (λ (b : eqb (header wk s .kind) 1 ≡ true). rw (a, b) (freed-fine thread key s g within begun lives (eqb-true _ _ a) (eqb-true _ _ b)))
+      (λ (b : eqb (header wk s .kind) 1 ≡ false). rw (a, b) (turned-fine thread key s g within begun lives (eqb-true _ _ a)))
+      (cases (eqb (header wk s .kind) 1)))
+      (λ (a : eqb (header wk s .epoch) ep ≡ false). rw a (covered-fine thread key s g within begun lives (h .newest) (eqb-false _ _ a) last))
+      (cases (eqb (header wk s .epoch) ep))
+
+  pub delete-open-fine : (key : ℕ) → Fine sz start l p ref.dropped thread (jobName key) [] (deleteOpen sz (table wk tr) key ep)
+  unfolding deleteOpen
+  delete-open-fine key = go (lookup sz (table wk tr) (jobName key) ep) refl
+    where
+      go : (k : Lookup) → lookup sz (table wk tr) (jobName key) ep ≡ k → Fine sz start l p ref.dropped thread (jobName key) [] (deleteLooked k sz (table wk tr) ep key)
+      go look.Later q = fine-refused g Newer
+      go (look.Live s) q = delete-at-fine s key (live-says sz (table wk tr) (jobName key) ep q)
+      go look.Absent q = fine-refused g NoJob
+
+-- ---- the calls
+module _ {sz : Sizes} {start : Jobs} {st : Store} {p : Plain} (thread : ℕ) (g : Good sz start st p) where
+  pub set-good : (j : Job) → Good sz start (setJob st thread j .store) (toldChange ref.altered thread (jobName (j .key)) (j .value) (setJob st thread j .reply) p)
+  unfolding setJob setSized
+  set-good j =
+      fine-call (setSized thread j) g
+      (λ a. fine-way g (badJob sz j) _
+      (λ h b c. set-opened-fine thread g h b (last-below g a) j (bad-words sz j c (g .working .sized .sizes .width-lo))))
+
+  pub delete-good : (key : ℕ) → Good sz start (deleteJob st thread key .store) (toldChange ref.dropped thread (jobName key) [] (deleteJob st thread key .reply) p)
+  unfolding deleteJob deleteSized
+  delete-good key =
+      fine-call (deleteSized thread key) g
+      (λ a. fine-way g (eqb key 0) _ (λ h b c. delete-open-fine thread g h b (last-below g a) key))

@@ -1,0 +1,137 @@
+-- A later version takes a free slot and the old one is retired: the two slots that change.
+use Prim.Native.Nat.{ℕ, _+_, _<_}
+use mathlib.Core.Path.{_≡_, refl, sym, _∙_}
+use mathlib.Core.Bool.{true}
+use mathlib.Core.Logic.{_≢_}
+use mathlib.Core.List.{List, _∷_}
+use lib.ListN.{length}
+use native.Mathlib.Omega.{arith}
+use Rattle.search.specs.declared.Found.{Found}
+use Rattle.search.specs.declared.Found.the-variants.{At, Nothing}
+use Rattle.reply.specs.declared.Refusal.the-variants.{Full}
+use Rattle.image.specs.declared.header.Header.{Header}
+use Rattle.image.specs.Layout.{headerOf, header}
+use Rattle.image.specs.Name.{Name, jobName}
+use Rattle.transient.specs.declared.sizes.Sizes.{Sizes}
+use Rattle.transient.specs.Layout.{lastTaken, nextUidOf, openEpoch, isWaiting, setRetired}
+use Rattle.transient.specs.Store.{Store, store, table}
+use Rattle.transient.specs.Requires.{Notes, notes-after}
+use Rattle.transient.specs.Laws.{HeadKept, head-then, retired-head, retired-uid, retired-same, retired-waiting, retired-aside}
+use Rattle.table.specs.Find.{freeAt, room}
+use Rattle.table.specs.Fill.{filledSlot, taken}
+use Rattle.jobs.specs.Job.{superseded}
+use Rattle.crash.specs.Table.{Put2}
+use Rattle.crash.specs.Reference.{Jobs, Act, Value}
+use Rattle.crash.specs.Slots.{Slot, State, Inv}
+use Rattle.crash.specs.Steps.{entry, filled, retiring, after, Successor, Current, Joins}
+use Rattle.crash.specs.Over.{over-inv}
+use Rattle.guarantee.specs.Trace.{Plain, plain, rowed}
+use Rattle.guarantee.specs.View.{flag, entryOf, slotOf, view, view-in, view-put2}
+use Rattle.guarantee.specs.Good.{Good}
+use Rattle.guarantee.specs.Notes.{Joined, taken-joins}
+use Rattle.guarantee.specs.Images.{Wrote, wrote-image, filled-wrote}
+use Rattle.guarantee.specs.Frame.{operation-of, change-joins, good-change, row-epoch}
+use Rattle.guarantee.specs.Lookups.{Lives, room-says, free-says}
+use Rattle.guarantee.specs.Changing.{Fine, fine-refused}
+
+module _ {sz : Sizes} {start : Jobs} {st : Store} {p : Plain} (g : Good sz start st p)
+    {wk′ tr′ : List ℕ} {e f s u : ℕ} {h : Header} {words : List ℕ} (a : Wrote (st .working) wk′ sz f h words) (j : Joined sz (st .transient) tr′ e f 0 u)
+    (k : f < sz .n) (i : s < sz .n) (apart : f ≢ s) where
+  abbrev nd : Store
+  nd = store wk′ (st .persistent) (setRetired sz tr′ s e)
+
+  abbrev c : ℕ
+  c = p .clock
+
+  notes′ : Notes tr′ sz
+  notes′ = notes-after (j .head .long) (g .notes)
+
+  first : slotOf nd sz c f ≡ record { working = entryOf h words; persistent = view st sz c f .persistent; retired = 0; now = flag (isWaiting sz tr′ c f); before = flag (isWaiting sz tr′ (c + 1) f) }
+  first =
+      let o = retired-aside notes′ s e f i apart in
+      rw (view-in st sz c f k, a .header-here, a .line-here, o .retired, j .retired, o .waiting c, o .waiting (c + 1))
+
+  second : slotOf nd sz c s ≡ retiring e (view st sz c s)
+  second =
+      let d : s ≢ f = λ q. apart (sym q) in
+      let o = j .others s i d in
+      rw (
+        view-in st sz c s i,
+        a .header-there s i d,
+        a .line-there s i d,
+        retired-same notes′ s e i,
+        retired-waiting notes′ s e c s i,
+        retired-waiting notes′ s e (c + 1) s i,
+        o .waiting c,
+        o .waiting (c + 1),
+      )
+
+  rest : (m : ℕ) → m < sz .n → m ≢ f → m ≢ s → slotOf nd sz c m ≡ slotOf st sz c m
+  rest m b d q =
+      let x = retired-aside notes′ s e m i q in
+      let o = j .others m b d in
+      rw (
+        a .header-there m b d,
+        a .line-there m b d,
+        x .retired,
+        o .retired,
+        x .waiting c,
+        x .waiting (c + 1),
+        o .waiting c,
+        o .waiting (c + 1),
+      )
+
+  pub over-put : Put2 (view st sz c) (view nd sz c) f
+      (record { working = entryOf h words; persistent = view st sz c f .persistent; retired = 0; now = flag (isWaiting sz tr′ c f); before = flag (isWaiting sz tr′ (c + 1) f) })
+      s (retiring e (view st sz c s))
+  over-put = view-put2 st nd sz c f s _ _ k i apart first second rest
+
+  pub over-head : HeadKept sz (st .transient) (setRetired sz tr′ s e)
+  over-head = head-then (j .head) (retired-head tr′ sz s e)
+
+  pub over-uid : nextUidOf (setRetired sz tr′ s e) ≡ u
+  over-uid = retired-uid tr′ sz s e ∙ j .uid
+
+-- the step with the uid and the name as the call has them
+over-as : {kind : ℕ} {act : Act} {e s r : ℕ} {v u : Value} {now before : ℕ} {st : State} {f : ℕ → Slot} {uid : ℕ} {k : Name} → Inv st
+    → uid ≡ st .slots r .working .uid → k ≡ st .slots r .working .name → Successor kind act v u → Current e r st → Joins (st .clock) e now before (st .slots s)
+    → st .slots s .working .kind ≡ 0 → st .slots r .working .epoch < e
+    → Put2 (st .slots) f s (filled (entry kind e uid k v) now before (st .slots s)) r (retiring e (st .slots r))
+    → Inv (after st f (st .uid) e act k u)
+over-as i a b o c j free older put = rw b (over-inv i record { outcome = o; of = c; joins = j; free = free; older = older; put = rw (a, b) at put })
+
+-- ---- set by a new UPDATE, delete by a new DELETE
+module _ {sz : Sizes} {start : Jobs} {wk l tr : List ℕ} {p : Plain} {kind : ℕ} {act : Act} {v u : Value} (thread key s : ℕ) (o : Successor kind act v u)
+    (g : Good sz start (store wk l tr) p) (within : thread < sz .t) (begun : openEpoch tr thread ≢ 0) (words : length v + 1 ≡ sz .w)
+    (lives : Lives g (jobName key) s) (older : header wk s .epoch < openEpoch tr thread) where
+  abbrev e : ℕ
+  e = openEpoch tr thread
+
+  abbrev old : Slot
+  old = view (store wk l tr) sz (p .clock) s
+
+  at-slot : old ≡ slotOf (store wk l tr) sz (p .clock) s
+  at-slot = view-in (store wk l tr) sz (p .clock) s (lives .below)
+
+  super-at : (f : ℕ) → f < sz .n → freeAt wk f ≡ true
+      → Good sz start (store (filledSlot sz wk f (headerOf kind e (header wk s .uid)) (key ∷ v)) l (setRetired sz (taken sz tr e f) s e))
+      (plain (p .clock) (p .operation) (rowed p act thread (jobName key) u) (p .ended) (p .durable))
+  super-at f h free =
+      let a = filled-wrote (g .working .sized) h (headerOf kind e (header wk s .uid)) (key ∷ v) (omega (arith, words)) in
+      let j = taken-joins (g .notes) e f h in
+      let empty = free-says g h free in
+      let pay = lives .payload in
+      let apart : f ≢ s = λ q. let z = rw q at empty in omega arith in
+      let uid-is : header wk s .uid ≡ old .working .uid = rw at-slot in
+      let epoch-is : header wk s .epoch ≡ old .working .epoch = rw at-slot in
+      good-change g (wrote-image a (g .working)) (over-head g a j h (lives .below) apart) (over-uid g a j h (lives .below) apart) (row-epoch g act thread (jobName key) u within)
+      (over-as (g .inv) uid-is (sym (lives .named)) o (record { operation = operation-of g thread within begun; payload = lives .payload; current = lives .current })
+      (change-joins g a j h) empty (omega (arith, epoch-is, older)) (over-put g a j h (lives .below) apart))
+
+  pub super-fine : (k : ℕ) → lastTaken tr < sz .n
+      → Fine sz start l p act thread (jobName key) u (superseded (room sz (table wk tr) k) sz (table wk tr) e s (headerOf kind e (header wk s .uid)) (key ∷ v))
+  super-fine k h = go (room sz (table wk tr) k) refl
+    where
+      go : (f : Found) → room sz (table wk tr) k ≡ f → Fine sz start l p act thread (jobName key) u (superseded f sz (table wk tr) e s (headerOf kind e (header wk s .uid)) (key ∷ v))
+      go (At f) q = let b = room-says sz (table wk tr) k f h q in record { good = super-at f (b .0) (b .1) }
+      go Nothing q = fine-refused g Full
