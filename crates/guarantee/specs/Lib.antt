@@ -12,3 +12,7 @@ pub mod Superseding
 pub mod Replacing
 pub mod Opening
 pub mod Stepping
+pub mod Ticking
+pub mod Flushing
+pub mod Reclaiming
+pub mod Advancing
