@@ -2,6 +2,7 @@ pub mod Trace
 pub mod Promise
 pub mod View
 pub mod Good
+pub mod Says
 pub mod Notes
 pub mod Images
 pub mod Frame
@@ -16,3 +17,9 @@ pub mod Ticking
 pub mod Flushing
 pub mod Reclaiming
 pub mod Advancing
+pub mod Surviving
+pub mod JobsOf
+pub mod Cutting
+pub mod Clean
+pub mod Fresh
+pub mod Starting

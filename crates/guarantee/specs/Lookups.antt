@@ -29,23 +29,7 @@ use Rattle.crash.specs.Slots.{Slot, Filled, Payload}
 use Rattle.guarantee.specs.Trace.{Plain}
 use Rattle.guarantee.specs.View.{view, view-in, view-out}
 use Rattle.guarantee.specs.Good.{Good}
-
--- ---- kinds
-pub payload-says : (k : ℕ) → payloadKind k ≡ true → (1 ≤ k) × (k ≤ 2)
-unfolding payloadKind
-payload-says k e = (leb-true 1 k (and-left (leb 1 k) _ e), leb-true k 2 (and-right (leb 1 k) _ e))
-
-pub says-payload : (k : ℕ) → 1 ≤ k → k ≤ 2 → payloadKind k ≡ true
-unfolding payloadKind
-says-payload k a b = and-both (le-leb 1 k a) (le-leb k 2 b)
-
-pub says-filled : (k : ℕ) → 1 ≤ k → k ≤ 3 → filledKind k ≡ true
-unfolding filledKind
-says-filled k a b = and-both (le-leb 1 k a) (le-leb k 3 b)
-
-pub filled-says : (k : ℕ) → filledKind k ≡ true → (1 ≤ k) × (k ≤ 3)
-unfolding filledKind
-filled-says k e = (leb-true 1 k (and-left (leb 1 k) _ e), leb-true k 3 (and-right (leb 1 k) _ e))
+use Rattle.guarantee.specs.Says.{payload-says, says-payload, says-filled}
 
 -- ---- what a look-up says
 pub record Missing (sz : Sizes) (tb : Table) (name : Name) (e : ℕ) : Type 0 where

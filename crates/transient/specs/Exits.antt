@@ -22,6 +22,7 @@ use Rattle.transient.specs.Store.{store, table, sizesOf}
 use Rattle.transient.specs.Layout.{slotsAt, lastAt, nextUidAt, phaseAt, placeAt, headWords, openAt, retiredAt, listBase, waitingAt, threadsOf, threadsOk, notedSlots, lastTaken, nextUidOf, placeSlot, openEpoch, isWaiting, setLast, setNextUid, setOpen, setRetired, setWaiting, setPlace, emptied, blank}
 use Rattle.transient.specs.Entry.{imagesFit, uidOk, notesFit, sizesFit, openOk, opensOk, clocksFit, entryCheck}
 use Rattle.transient.specs.Requires.{ThreadRoom, Notes, Sizable, Paired, sizesAlike, Threads, Fitting, requires-laws}
+use Rattle.transient.specs.Laws.{threads-head}
 use Rattle.transient.specs.Clearing.{clearings}
 use Rattle.transient.specs.Passed.{sizing, sizes-t}
 
@@ -215,8 +216,7 @@ module _ (wk l tr : List ℕ) {f : Bool} (fi : f ≡ imagesFit wk l) where
       sizes-notes e q = rw (← fi, ft, ← at, ← th, e) q
 
 pub threads-room : (len n : ℕ) {k : Bool} → k ≡ threadsOk len n → k ≡ true → headWords ≤ len
-unfolding threadsOk
-threads-room len n e t = omega (arith, leb-true 1 (threadsOf len n) (and-left (leb 1 (threadsOf len n)) _ (sym e ∙ t)))
+threads-room len n e t = threads-head len n (sym e ∙ t)
 
 -- ---- refusal 2
 pub fitting-threads : {wk l tr : List ℕ} {t : ℕ} → Fitting wk l tr t → Threads tr t

@@ -1,0 +1,305 @@
+-- An accepted image of survivors only, in both places, with notes that say nothing: such a store has the invariant, with an empty
+-- row and the image's own jobs.
+use Prim.Native.Nat.{ℕ, _+_, _-_, _≤_, _<_}
+use mathlib.Core.Path.{_≡_, refl, sym, ap, _∙_}
+use mathlib.Core.Bool.{true}
+use mathlib.Core.Logic.{_≢_, inl, _↔_, Iff·trans}
+use mathlib.Core.List.{List, [], List·Memᴰ·not-nil}
+use lib.ListN.{length}
+use lib.Dec.{leb}
+use borrow.Author.Tests.{eq-eqb, leb-true}
+use native.Mathlib.Omega.{arith}
+use native.Mathlib.Decide.{decLt}
+use Rattle.search.specs.Bools.{never, and-left, and-right, and-both}
+use Rattle.search.specs.Some.{some-at}
+use Rattle.reply.specs.declared.Check.the-variants.{Accepted}
+use Rattle.image.specs.Layout.{filledKind, payloadKind, header, contents, valueAt, slotsOf, widthOf, clockOf, freeHeader}
+use Rattle.image.specs.Name.{Name, keyOf, nameAt}
+use Rattle.image.specs.Laws.{name-contents, value-contents}
+use Rattle.transient.specs.declared.sizes.Sizes.{Sizes}
+use Rattle.transient.specs.Layout.{threadsOf, threadsOk, nextUidOf, placePhase, placeSlot, openEpoch, retiredIn, blank}
+use Rattle.transient.specs.Store.{Store, store, table, tableOf, sizesOf}
+use Rattle.transient.specs.Requires.{Notes}
+use Rattle.transient.specs.Laws.{threads-head, blank-length, blank-uid, blank-phase, blank-open, blank-retired}
+use Rattle.survival.specs.Survivors.{kept, wins, survives, survivor}
+use Rattle.acceptance.specs.Accept.{blankHeader, proper, sameVersion, versionBelow, imageCheck}
+use Rattle.acceptance.specs.Sound.{Accepts, accepted-says}
+use Rattle.recovery.specs.Steps.{survivor-named, survivors-apart}
+use Rattle.crash.specs.Reference.{Value}
+use Rattle.crash.specs.Slots.{Slot, Filled, Proper, Shows}
+use Rattle.crash.specs.Steps.{atRest, Survives, Settled, Start}
+use Rattle.crash.specs.Begin.{start-inv}
+use Rattle.guarantee.specs.Trace.{startOf}
+use Rattle.guarantee.specs.Promise.{jobsOf}
+use Rattle.guarantee.specs.View.{entryOf, slotOf, noSlot, view, progress, view-in, view-out}
+use Rattle.guarantee.specs.Good.{stateOf, Image, Good}
+use Rattle.guarantee.specs.Says.{says-filled, proper-says}
+use Rattle.guarantee.specs.Surviving.{survives-at}
+use Rattle.guarantee.specs.JobsOf.{Survivor, jobs-of}
+
+-- the invariant, at the start of a run
+abbrev pub Begins : Store → Type 0
+Begins st = Good (sizesOf (tableOf st)) (jobsOf (st .persistent)) st (startOf st .plain)
+
+-- the notes have nothing open, retired or underway
+pub record Clean (l tr : List ℕ) : Type 0 where
+  pub accepted : imageCheck l ≡ Accepted
+  pub just : (s : ℕ) → s < slotsOf l → filledKind (header l s .kind) ≡ true → survivor l (slotsOf l) s ≡ true
+  pub uid-lo : 1 ≤ nextUidOf tr
+  pub uids : (s : ℕ) → s < slotsOf l → survivor l (slotsOf l) s ≡ true → header l s .uid < nextUidOf tr
+  pub threads : threadsOk (length tr) (slotsOf l) ≡ true
+  pub idle : placePhase tr ≡ 0
+  pub closed : (thread : ℕ) → openEpoch tr thread ≡ 0
+  pub not-retired : (z : Sizes) (s : ℕ) → retiredIn z tr s ≡ 0
+
+-- blank notes are such, with a next uid above the survivors'
+pub blank-clean : (l : List ℕ) (len n u : ℕ) → imageCheck l ≡ Accepted
+    → ((s : ℕ) → s < slotsOf l → filledKind (header l s .kind) ≡ true → survivor l (slotsOf l) s ≡ true)
+    → 1 ≤ u → ((s : ℕ) → s < slotsOf l → survivor l (slotsOf l) s ≡ true → header l s .uid < u)
+    → threadsOk len (slotsOf l) ≡ true → Clean l (blank len n u)
+blank-clean l len n u ok just lo uids t =
+    let is = blank-uid len n u (threads-head len (slotsOf l) t) in
+    record {
+      accepted = ok;
+      just = just;
+      uid-lo = rw is lo;
+      uids = rw is uids;
+      threads = rw (blank-length len n u) t;
+      idle = blank-phase len n u;
+      closed = blank-open len n u;
+      not-retired = blank-retired len n u;
+    }
+
+-- two kept slots are not of one version
+version-once : (l : List ℕ) → imageCheck l ≡ Accepted → (s t : ℕ) → s < slotsOf l → t < s
+    → kept (clockOf l) (header l s) ≡ true → kept (clockOf l) (header l t) ≡ true → header l t .uid ≡ header l s .uid → header l t .epoch ≢ header l s .epoch
+unfolding versionBelow sameVersion
+version-once l ok s t h b k x u e =
+    let c = clockOf l in
+    let below = some-at (λ m. sameVersion c (header l s) (header l m)) s t b (and-both x (and-both (eq-eqb _ _ u) (eq-eqb _ _ e))) in
+    never (versionBelow c (header l) s) (and-both k below) (accepted-says l ok .sound .versions s h)
+
+-- a survivor is kept
+pub survivor-kept : (l : List ℕ) (n s : ℕ) → survivor l n s ≡ true → kept (clockOf l) (header l s) ≡ true
+unfolding survivor survives wins
+survivor-kept l n s v = and-left (kept (clockOf l) (header l s)) _ (and-right (payloadKind (header l s .kind)) _ v)
+
+-- a free header is proper
+pub free-proper : (c : ℕ) → proper c freeHeader ≡ true
+unfolding proper blankHeader
+free-proper c = refl
+
+module _ {l tr : List ℕ} (z : Clean l tr) where
+  abbrev st : Store
+  st = store l l tr
+
+  abbrev sz : Sizes
+  sz = record { n = slotsOf l; w = widthOf l; t = threadsOf (length tr) (slotsOf l) }
+
+  abbrev n : ℕ
+  n = slotsOf l
+
+  abbrev w : ℕ
+  w = widthOf l
+
+  abbrev c : ℕ
+  c = clockOf l
+
+  abbrev slots : ℕ → Slot
+  slots = view (store l l tr) (record { n = slotsOf l; w = widthOf l; t = threadsOf (length tr) (slotsOf l) }) (clockOf l)
+
+  -- what is known of the image, of a slot's header and of its place in the table
+  ok : Accepts l
+  ok = accepted-says l (z .accepted)
+
+  proper-at : (s : ℕ) → s < n → Proper c (entryOf (header l s) (contents l n w s))
+  proper-at s h = proper-says c (header l s) (contents l n w s) (ok .sound .all-proper s h)
+
+  some-width : 1 ≤ w
+  some-width = omega (arith, ok .sized .sizes .width-lo)
+
+  is-at : (s : ℕ) → s < n → view st sz c s ≡ slotOf st sz c s
+  is-at = view-in st sz c
+
+  wins-at : (s : ℕ) → s < n → survivor l n s ≡ true → Survives (c - 2) slots s
+  wins-at = survives-at st sz c (c - 2) (omega (arith, ok .clock-lo)) (λ m h. proper-at m h .kind-hi)
+
+  name-at : (s : ℕ) → s < n → slots s .working .name ≡ nameAt l n w s
+  name-at s h = rw (is-at s h) (sym (name-contents l n w s some-width))
+
+  value-at : (s : ℕ) → s < n → slots s .working .value ≡ valueAt l n w s
+  value-at s h = rw (is-at s h) (sym (value-contents l n w s some-width))
+
+  -- a slot with something in it survives
+  record Lives (s : ℕ) : Type 0 where
+    below : s < n
+    survives : survivor l n s ≡ true
+    wins : Survives (c - 2) slots s
+
+  filled-lives : (s : ℕ) → Filled (slots s .working) → Lives s
+  filled-lives s f = elim (decLt s n) [
+    | yes h ↦
+        let v = z .just s h (says-filled (header l s .kind) (rw (is-at s h) at f) (proper-at s h .kind-hi)) in
+        record { below = h; survives = v; wins = wins-at s h v }
+    | no h ↦ let q : 1 ≤ 0 = rw (view-out st sz c s (omega arith)) at f in absurd (omega arith)
+  ]
+
+  -- the bounds of a header: it is free, or it survives
+  record Old (s : ℕ) : Type 0 where
+    payload : header l s .kind ≤ 2
+    old : header l s .epoch + 2 ≤ c
+    uid-below : header l s .uid < nextUidOf tr
+
+  old-at : (s : ℕ) → s < n → Old s
+  old-at s h =
+      let p = proper-at s h in
+      elim (decLt 0 (header l s .kind)) [
+        | yes f ↦
+            let v = filled-lives s (rw (is-at s h) f) in
+            let x = rw (is-at s h) at (v .wins .kept) in
+            record { payload = rw (is-at s h) at (v .wins .payload); old = omega (arith, ok .clock-lo); uid-below = z .uids s h (v .survives) }
+        | no f ↦
+            let k : header l s .kind ≡ 0 = omega arith in
+            record { payload = omega arith; old = omega (arith, ok .clock-lo, p .free-epoch k); uid-below = omega (arith, z .uid-lo, p .free-uid k) }
+      ]
+
+  -- each slot of the table is settled, and so is what lies beyond
+  settled-in : (s : ℕ) → s < n → Settled c (nextUidOf tr) (slotOf st sz c s)
+  settled-in s h =
+      let o = old-at s h in
+      record {
+        same-head = record { kind-is = refl; epoch-is = refl; uid-is = refl };
+        same-line = record { name-is = refl; value-is = refl };
+        proper = proper-at s h;
+        payload = o .payload;
+        old = o .old;
+        uid-below = o .uid-below;
+        named = λ f q.
+            survivor-named l (z .accepted) s h (filled-lives s (rw (is-at s h) f) .survives) (ap keyOf (name-contents l n w s some-width) ∙ q);
+        not-retired = z .not-retired sz s;
+      }
+
+  settled-out : Settled c (nextUidOf tr) noSlot
+  settled-out =
+      record {
+        same-head = record { kind-is = refl; epoch-is = refl; uid-is = refl };
+        same-line = record { name-is = refl; value-is = refl };
+        proper = proper-says c freeHeader [] (free-proper c);
+        payload = omega arith;
+        old = omega (arith, ok .clock-lo);
+        uid-below = omega (arith, z .uid-lo);
+        named = λ f. absurd (omega arith);
+        not-retired = refl;
+      }
+
+  settled-at : (s : ℕ) → Settled c (nextUidOf tr) (slots s)
+  settled-at s = elim (decLt s n) [
+    | yes h ↦ rw (is-at s h) (settled-in s h)
+    | no h ↦ rw (view-out st sz c s (omega arith)) settled-out
+  ]
+
+  -- two filled slots have two uids ..
+  uids-apart : (a b : ℕ) → a ≢ b → Lives a → Lives b → slots a .working .uid ≢ slots b .working .uid
+  uids-apart a b d x y u =
+      let i = is-at a (x .below) in
+      let j = is-at b (y .below) in
+      let p : header l a .uid ≡ header l b .uid = rw (i, j) at u in
+      let hi : header l b .epoch ≤ header l a .epoch = (rw (i, j) at (x .wins .wins b (y .wins .kept))) (sym p) in
+      let lo : header l a .epoch ≤ header l b .epoch = (rw (i, j) at (y .wins .wins a (x .wins .kept))) p in
+      let ka = survivor-kept l n a (x .survives) in
+      let kb = survivor-kept l n b (y .survives) in
+      elim (decLt a b) [
+        | yes q ↦ version-once l (z .accepted) b a (y .below) q kb ka p (omega arith)
+        | no q ↦ version-once l (z .accepted) a b (x .below) (omega arith) ka kb (sym p) (omega arith)
+      ]
+
+  -- .. and two names
+  names-apart : (a b : ℕ) → a ≢ b → Lives a → Lives b → slots a .working .name ≢ slots b .working .name
+  names-apart a b d x y q =
+      survivors-apart l (z .accepted) a b (x .below) (y .below) d (x .survives) (y .survives) (sym (name-at a (x .below)) ∙ q ∙ name-at b (y .below))
+
+  -- what is shown at the clock is what survives
+  shown : (k : Name) (v : Value) → Shows slots c k v ↔ Survivor l n w k v
+  shown k v = (
+    λ a. let x = filled-lives (a .at) (a .holds .visible .payload .0) in
+        let h = x .below in
+        record {
+          at = a .at;
+          below = h;
+          survives = x .survives;
+          name-is = sym (name-at (a .at) h) ∙ a .holds .name-is;
+          value-is = sym (value-at (a .at) h) ∙ a .holds .value-is;
+        },
+    λ j. let h = j .below in
+        let o = old-at (j .at) h in
+        let x = wins-at (j .at) h (j .survives) .kept .filled in
+        record {
+          at = j .at;
+          holds = record {
+            visible = rw (is-at (j .at) h) record {
+              payload = (rw (is-at (j .at) h) at x, o .payload);
+              begun = omega arith;
+              live = inl (settled-in (j .at) h .not-retired);
+            };
+            name-is = name-at (j .at) h ∙ j .name-is;
+            value-is = value-at (j .at) h ∙ j .value-is;
+          };
+        },
+  )
+
+  -- no advance is underway
+  rests : progress (sz .n) (placePhase tr) (placeSlot tr) ≡ atRest
+  unfolding progress
+  rests = rw (z .idle)
+
+  -- together, a start
+  starts : Start (stateOf sz (jobsOf l) st (startOf st .plain))
+  starts =
+      record {
+        clock-lo = ok .clock-lo;
+        uid-lo = z .uid-lo;
+        settled = settled-at;
+        apart = λ a b d. record {
+          uids = λ f g. uids-apart a b d (filled-lives a f) (filled-lives b g);
+          names = λ f g. names-apart a b d (filled-lives a f) (filled-lives b g);
+        };
+        rest = rests;
+        empty = refl;
+        jobs = λ k v. Iff·trans (shown k v) (let j = jobs-of k v (z .accepted) refl refl in (j .1, j .0));
+      }
+
+  -- the notes have the length of n slots and t threads
+  notes-fit : Notes tr sz
+  unfolding threadsOk
+  notes-fit =
+      let t = threadsOf (length tr) n in
+      let room = leb-true 1 t (and-left (leb 1 t) _ (z .threads)) in
+      record { long = omega arith; slots-hi = ok .sized .sizes .slots-hi; threads-hi = leb-true t 16 (and-right (leb 1 t) _ (z .threads)) }
+
+  image-at : Image sz c l
+  image-at = record { sized = ok .sized; slots-is = refl; width-is = refl; clock-is = refl }
+
+  -- such a store has the invariant
+  clean-here : Good sz (jobsOf l) st (startOf st .plain)
+  clean-here =
+      let i = image-at in
+      let none : (thread : ℕ) → openEpoch tr thread ≡ 0 = λ thread. z .closed thread in
+      record {
+        clock-hi = ok .clock-hi;
+        working = i;
+        persistent = i;
+        notes = notes-fit;
+        opens = record {
+          same = λ u _. none u;
+          least = λ u _ q. absurd (omega (arith, none u));
+          low = λ u _ q. absurd (omega (arith, none u));
+          high = λ u _. omega (arith, none u);
+          quiet = λ u _ q. absurd (omega (arith, none u, ok .clock-lo));
+        };
+        past = record { ended-hi = λ e m. absurd (List·Memᴰ·not-nil m); durable-hi = λ e m. absurd (List·Memᴰ·not-nil m) };
+        inv = start-inv starts;
+      }
+
+  pub clean-good : Begins (store l l tr)
+  unfolding sizesOf
+  clean-good = clean-here

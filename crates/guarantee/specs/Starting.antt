@@ -1,0 +1,72 @@
+-- The start: what format or a finished recovery leaves has the invariant.
+use Prim.Native.Nat.{ℕ, _+_, _-_, _≤_, _<_}
+use mathlib.Core.Path.{_≡_, refl, _∙_}
+use mathlib.Core.Bool.{true, not}
+use mathlib.Core.List.{List}
+use lib.ListN.{length}
+use lib.Dec.{eqb}
+use borrow.Author.Tests.{not-false}
+use native.Mathlib.Omega.{arith}
+use Rattle.search.specs.Bools.{and-right}
+use Rattle.search.specs.Largest.{largest-bounds}
+use Rattle.search.specs.declared.Found.{Found}
+use Rattle.search.specs.declared.Found.the-variants.{At, Nothing}
+use Rattle.reply.specs.declared.Check.{Check}
+use Rattle.reply.specs.declared.Check.the-variants.{Accepted, Refused}
+use Rattle.reply.specs.declared.Refusal.the-variants.{BadSizes}
+use Rattle.reply.specs.Refusals.{not-refused, both-accepted}
+use Rattle.image.specs.Layout.{slotsOf, widthOf}
+use Rattle.transient.specs.Layout.{threadsOk}
+use Rattle.transient.specs.Store.{Store, tableOf, sizesOf, afterCheck}
+use Rattle.survival.specs.Survivors.{survivor}
+use Rattle.acceptance.specs.Accept.{headCheck, slotsCheck, imageCheck}
+use Rattle.recovery.specs.declared.Recovery.the-variants.{WentOn, Done, Declined}
+use Rattle.recovery.specs.Recover.{nextFreed, uidOf, nextUid, lengthsFit, recoverEntryCheck, recoverCheck, finished, freeing, recover}
+use Rattle.recovery.specs.Steps.{filledAt, done-survivors}
+use Rattle.guarantee.specs.Promise.{Started, fresh, recovered}
+use Rattle.guarantee.specs.Clean.{Begins, blank-clean, clean-good}
+use Rattle.guarantee.specs.Fresh.{fresh-good, formats}
+
+-- ---- a recovery that is done
+recovered-good : (l : List ℕ) (len : ℕ) → imageCheck l ≡ Accepted → nextFreed l (slotsOf l) ≡ Nothing → threadsOk len (slotsOf l) ≡ true
+    → Begins (finished l len (slotsOf l))
+unfolding finished filledAt nextUid
+recovered-good l len ok none t =
+    let n = slotsOf l in
+    clean-good (blank-clean l len n (nextUid l n) ok (λ s h f. done-survivors l none s h ∙ f) (omega arith)
+    (λ s h v. omega (arith, largest-bounds (survivor l n) (uidOf l) n s h v)) t)
+
+-- what a call that replied done judged and found
+record Finishes (st : Store) : Type 0 where
+  accepted : imageCheck (st .persistent) ≡ Accepted
+  none : nextFreed (st .persistent) (slotsOf (st .persistent)) ≡ Nothing
+  threads : threadsOk (length (st .transient)) (slotsOf (st .persistent)) ≡ true
+  leaves : recover st .store ≡ finished (st .persistent) (length (st .transient)) (slotsOf (st .persistent))
+
+-- only an accepted call with nothing to free replies done
+done-only : (k : Check) (f : Found) (st : Store) (n : ℕ) → afterCheck k Declined st (freeing f st n) .reply ≡ Done → (k ≡ Accepted) × (f ≡ Nothing)
+done-only (Refused r) f st n e = let z : _≡_ {A = ℕ} 0 1 = cc in absurd (omega arith)
+done-only Accepted (At s) st n e = let z : _≡_ {A = ℕ} 0 1 = cc in absurd (omega arith)
+done-only Accepted Nothing st n e = (refl, refl)
+
+finishes : (st : Store) → recover st .reply ≡ Done → Finishes st
+unfolding recover recoverCheck recoverEntryCheck lengthsFit imageCheck
+finishes st e =
+    let l = st .persistent in
+    let n = slotsOf l in
+    let fit = lengthsFit (length (st .working)) l (length (st .transient)) in
+    let d = done-only (recoverCheck st) (nextFreed l n) st n e in
+    let both = both-accepted (recoverEntryCheck (length (st .working)) l (length (st .transient))) (slotsCheck l n (widthOf l)) (d .0) in
+    let entry = not-refused (not fit) BadSizes (headCheck l) (both .0) in
+    record {
+      accepted = rw (entry .1) (both .1);
+      none = d .1;
+      threads = and-right (eqb (length (st .working)) (length l)) _ (not-false fit (entry .0));
+      leaves = rw (d .0, d .1);
+    }
+
+-- ---- every start has the invariant
+pub start-good : {st : Store} → Started st → Begins st
+start-good (fresh a n w e) = let f = formats a n w e in rw (f .leaves) (fresh-good n w (f .sizes) (length (a .transient)) (f .threads))
+start-good (recovered a e) =
+    let f = finishes a e in rw (f .leaves) (recovered-good (a .persistent) (length (a .transient)) (f .accepted) (f .none) (f .threads))
