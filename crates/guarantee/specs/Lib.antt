@@ -23,3 +23,7 @@ pub mod Cutting
 pub mod Clean
 pub mod Fresh
 pub mod Starting
+pub mod Running
+pub mod Syncs
+pub mod Worked
+pub mod Theorem

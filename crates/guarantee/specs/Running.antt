@@ -1,0 +1,144 @@
+-- Every moment of a run keeps the invariant.
+use Prim.Native.Nat.{ℕ, zero, suc, _+_, _*_, _≤_}
+use mathlib.Core.Path.{_≡_, refl}
+use mathlib.Core.Logic.{_⊎_, ⊎-elim}
+use mathlib.Core.List.{List·Memᴰ·cases-cons, List, [], _∷_, List·Memᴰ, List·Memᴰ·append-cases, List·Memᴰ·eq-of-singleton, List·Memᴰ·not-nil}
+use native.Mathlib.Omega.{arith}
+use Rattle.reply.specs.declared.Check.{Check}
+use Rattle.reply.specs.declared.Check.the-variants.{Accepted, Refused}
+use Rattle.image.specs.Layout.{slotsOf}
+use Rattle.transient.specs.declared.sizes.Sizes.{Sizes}
+use Rattle.transient.specs.Store.{Store, tableOf, sizesOf}
+use Rattle.epochs.specs.declared.Advance.{Advance}
+use Rattle.epochs.specs.declared.Advance.the-variants.{WentOn, Ticked, Declined}
+use Rattle.epochs.specs.Advance.{advance}
+use Rattle.epochs.specs.Sync.{syncCheck, mostLines}
+use Rattle.crash.specs.Reference.{Jobs}
+use Rattle.guarantee.specs.Trace.{LineCode, Call, begins, ends, news, sets, deletes, reads, advances, syncs, writesBack, Plain, toldAdvance, toldDone, Moment, moment, startOf, Trace, stay, one, followed, afterAdvance, afterLine, afterLines, goingOn, advanced, syncing, synced, through, run, moments}
+use Rattle.guarantee.specs.Promise.{jobsOf, Started}
+use Rattle.guarantee.specs.Good.{Good}
+use Rattle.guarantee.specs.Opening.{begin-good, end-good}
+use Rattle.guarantee.specs.Making.{new-good}
+use Rattle.guarantee.specs.Replacing.{set-good, delete-good}
+use Rattle.guarantee.specs.Flushing.{write-back-good}
+use Rattle.guarantee.specs.Advancing.{advance-good}
+use Rattle.guarantee.specs.Starting.{start-good}
+
+module _ (sz : Sizes) (start : Jobs) where
+  abbrev pub GoodAt : Moment → Type 0
+  GoodAt m = Good sz start (m .store) (m .plain)
+
+  pub record GoodTrace (tr : Trace) : Type 0 where
+    pub passed : (m : Moment) → List·Memᴰ m (tr .passed) → GoodAt m
+    pub last : GoodAt (tr .last)
+
+  good-stay : (m : Moment) → GoodAt m → GoodTrace (stay m)
+  good-stay m g = record { passed = λ x i. absurd (List·Memᴰ·not-nil i); last = g }
+
+  good-one : (m : Moment) → GoodAt m → GoodTrace (one m)
+  good-one m g = record { passed = λ x i. rw (List·Memᴰ·eq-of-singleton i) g; last = g }
+
+  good-then : (tr : Trace) (next : Moment → Trace) → GoodTrace tr → GoodTrace (next (tr .last)) → GoodTrace (followed tr next)
+  good-then tr next a b =
+      record {
+        passed = λ x i. ⊎-elim (λ j. a .passed x j) (λ j. b .passed x j) (List·Memᴰ·append-cases (tr .passed) i);
+        last = b .last;
+      }
+
+  -- ---- lines written back: the reference map does not hear of them
+  line-good : (k : LineCode) (m : Moment) → GoodAt m → GoodAt (afterLine k m)
+  unfolding afterLine
+  line-good k m g = write-back-good (k .slot) (k .code) g
+
+  lines-good : (ks : List LineCode) (m : Moment) → GoodAt m → GoodTrace (afterLines ks m)
+  unfolding afterLines
+  lines-good [] m g = good-stay m g
+  lines-good (k ∷ ks) m g = good-then (one (afterLine k m)) (afterLines ks) (good-one (afterLine k m) (line-good k m g)) (lines-good ks (afterLine k m) (line-good k m g))
+
+  lines-plain : (ks : List LineCode) (m : Moment) → afterLines ks m .last .plain ≡ m .plain
+  unfolding afterLines afterLine
+  lines-plain [] m = refl
+  lines-plain (k ∷ ks) m = lines-plain ks (afterLine k m)
+
+  -- ---- advance and sync
+  advanced-good : (m : Moment) → GoodAt m → GoodAt (afterAdvance m)
+  unfolding afterAdvance
+  advanced-good m g = advance-good g
+
+  -- what has ended is two epochs below the clock once so many more ticks have happened
+  abbrev Ahead : ℕ → Plain → Type 0
+  Ahead ticks p = (e : ℕ) → List·Memᴰ e (p .ended) → e + 2 ≤ p .clock + ticks
+
+  done-good : (m : Moment) → GoodAt m → Ahead 0 (m .plain) → GoodAt (moment (m .store) (toldDone (m .plain)))
+  done-good m g h =
+      record {
+        clock-hi = g .clock-hi;
+        working = g .working;
+        persistent = g .persistent;
+        notes = g .notes;
+        opens = let o = g .opens in record { same = o .same; least = o .least; low = o .low; high = o .high; quiet = o .quiet };
+        past = record { ended-hi = g .past .ended-hi; durable-hi = λ e i. omega (arith, h e i) };
+        inv = g .inv;
+      }
+
+  -- after an advance call, by its reply
+  advances-good : (ticks : ℕ) (on tick : Moment → Trace) (m : Moment) → GoodAt m → Ahead (suc ticks) (m .plain)
+      → ((x : Moment) → GoodAt x → Ahead (suc ticks) (x .plain) → GoodTrace (on x))
+      → ((x : Moment) → GoodAt x → Ahead ticks (x .plain) → GoodTrace (tick x))
+      → GoodTrace (advanced on tick m)
+  unfolding afterAdvance
+  advances-good ticks on tick m g h a b =
+      good-then (one (afterAdvance m)) (goingOn (advance (m .store) .reply) on tick) (good-one (afterAdvance m) (advanced-good m g))
+      (go (advance (m .store) .reply) (advance-good g))
+    where
+      go : (r : Advance) → Good sz start (advance (m .store) .store) (toldAdvance r (m .plain))
+          → GoodTrace (goingOn r on tick (moment (advance (m .store) .store) (toldAdvance r (m .plain))))
+      go WentOn i = a _ i h
+      go Ticked i = b _ i (λ e j. omega (arith, h e j))
+      go (Declined r) i = good-stay _ i
+
+  syncing-good : (more ticks k : ℕ) (lines : ℕ → List LineCode) (m : Moment) → GoodAt m → Ahead ticks (m .plain) → GoodTrace (syncing more ticks k lines m)
+  unfolding syncing
+  syncing-good more zero k lines m g h = good-one _ (done-good m g h)
+  syncing-good zero (suc ticks) k lines m g h = good-stay m g
+  syncing-good (suc more) (suc ticks) k lines m g h =
+      let a = lines-good (lines k) m g in
+      let on = syncing more (suc ticks) (suc k) lines in
+      let tick = syncing more ticks (suc k) lines in
+      good-then (afterLines (lines k) m) (advanced on tick) a
+      (advances-good ticks on tick (afterLines (lines k) m .last) (a .last) (rw (lines-plain (lines k) m) h)
+      (syncing-good more (suc ticks) (suc k) lines) (syncing-good more ticks (suc k) lines))
+
+  synced-good : (k : Check) (lines : ℕ → List LineCode) (m : Moment) → GoodAt m → GoodTrace (synced k lines m)
+  synced-good (Refused r) lines m g = good-stay m g
+  synced-good Accepted lines m g =
+      syncing-good (2 * mostLines (slotsOf (m .store .working))) 2 0 lines m g (λ e i. omega (arith, g .past .ended-hi e i))
+
+  -- ---- calls, and lists of calls
+  through-good : (c : Call) (m : Moment) → GoodAt m → GoodTrace (through c m)
+  unfolding through
+  through-good (begins thread) m g = good-one _ (begin-good thread g)
+  through-good (ends thread) m g = good-one _ (end-good thread g)
+  through-good (news thread j) m g = good-one _ (new-good thread j g)
+  through-good (sets thread j) m g = good-one _ (set-good thread g j)
+  through-good (deletes thread key) m g = good-one _ (delete-good thread g key)
+  through-good (reads thread key) m g = good-one _ g
+  through-good advances m g = good-one _ (advanced-good m g)
+  through-good (syncs lines) m g = synced-good (syncCheck (m .store)) lines m g
+  through-good (writesBack k) m g = good-one _ (line-good k m g)
+
+  pub run-good : (calls : List Call) (m : Moment) → GoodAt m → GoodTrace (run calls m)
+  unfolding run
+  run-good [] m g = good-stay m g
+  run-good (c ∷ cs) m g = let a = through-good c m g in good-then (through c m) (run cs) a (run-good cs (through c m .last) (a .last))
+
+-- ---- from a start
+pub moments-good : {st : Store} → Started st → (calls : List Call) (m : Moment) → List·Memᴰ m (moments st calls)
+    → Good (sizesOf (tableOf st)) (jobsOf (st .persistent)) (m .store) (m .plain)
+unfolding moments
+moments-good {st} s calls m i =
+    let all = run-good (sizesOf (tableOf st)) (jobsOf (st .persistent)) calls (startOf st) (start-good s) in
+    ⊎-elim (λ q. at-start q (start-good s)) (λ j. all .passed m j) (List·Memᴰ·cases-cons i)
+  where
+    at-start : {sz : Sizes} {jobs : Jobs} → m ≡ startOf st → Good sz jobs st (startOf st .plain) → Good sz jobs (m .store) (m .plain)
+    at-start q g = rw q g
