@@ -1,6 +1,6 @@
 -- `bytes_ok`: by the tests on the way.
 use borrow.Author.Needs.{needs}
-use Rattle.survival.specs.Code.{laws}
+use Rattle.acceptance.specs.Exits.{laws}
 use Rattle.acceptance.specs.Questions.{bytesOk}
 use Rattle.acceptance.proofs.questions.bytes_ok.Statement.{statement}
 use Rattle.acceptance.proofs.questions.bytes_ok.Tie as tie
