@@ -299,10 +299,14 @@ module _ {l : List ℕ} {n w s key : ℕ} {flags : List Bool} {below : List ℕ}
   pub named-below : {p : ℕ → Bool} {x k : ℕ} → Chased p (keyAt l n w) n x s k → (k ≡ 0 → ⊥) → SlotMarked l n w (k - 1) flags
   named-below y q = slot-marked (z .at .chains .marked) (omega (arith, chased-slot y q, z .at .within))
 
-pub ruleset laws = (tests, firsts, somes, marks, blank-kind, blank-epoch, blank-rest, filled-no, filled-early, filled-late, filled-zero, filled-uid, proper-blank, proper-else, proper-every, nameless-yes, nameless-no, as-yes, as-no, some-nameless, version-yes, version-uid, version-no, head-shape, head-clock, head-fine, shape-room, slots-improper, slots-nameless, slots-version, slots-named, slots-fine, check-declines, check-goes, check-long, check-sized, clock-declines, clock-goes, image-head, survivors-declines, survivors-goes, past-declines, past-goes)
+-- headers, and the checks of an image
+pub ruleset laws = (tests, firsts, somes, marks, blank-kind, blank-epoch, blank-rest, filled-no, filled-early, filled-late, filled-zero, filled-uid, proper-blank, proper-else, proper-every, nameless-yes, nameless-no, some-nameless, head-shape, head-clock, head-fine, shape-room, slots-improper, slots-nameless, slots-version, slots-named, slots-fine)
+
+-- the whole check, and the questions
+pub ruleset answer-laws = (marks, check-declines, check-goes, check-long, check-sized, clock-declines, clock-goes, image-head, survivors-declines, survivors-goes, past-declines, past-goes)
 
 -- two slots of one version
-pub ruleset version-laws = (walks, uids-small, uids-large, uid-chains, uids-at, version-of, version-in, below-yes, below-no, version-twice, chains-clock, version-at, version-word, version-start, version-under, version-header)
+pub ruleset version-laws = (tests, firsts, somes, walks, uids-small, uids-large, uid-chains, uids-at, version-of, version-uid, version-yes, version-no, version-in, below-yes, below-no, version-twice, chains-clock, version-at, version-word, version-start, version-under, version-header)
 
 -- two survivors of one name
-pub ruleset name-laws = (walks, linking-next, linking-end, keys-small, keys-large, keys-unlinked, key-chains, keys-at, key-of, keys-start, keys-slot, keys-place, below-named, below-gone, name-twice, named-marked, named-slot, named-word, named-start, named-under, named-below)
+pub ruleset name-laws = (firsts, somes, walks, linking-next, linking-end, keys-small, keys-large, keys-unlinked, key-chains, keys-at, key-of, keys-start, keys-slot, keys-place, as-yes, as-no, below-named, below-gone, name-twice, named-marked, named-slot, named-word, named-start, named-under, named-below)

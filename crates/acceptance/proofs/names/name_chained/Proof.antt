@@ -1,6 +1,6 @@
 -- `name_chained`: a search.
 use borrow.Author.Needs.{needs}
-use Rattle.acceptance.specs.Exits.{laws, name-laws}
+use Rattle.acceptance.specs.Exits.{name-laws}
 use Prim.Native.Nat.{_-_}
 use Rattle.search.specs.First.{Sought}
 use Rattle.acceptance.specs.Accept.{nameBelow}
@@ -19,10 +19,10 @@ name-chained-spec =
     (tie.spec
     Inv-loop
     μ-loop
-    (λ c. search (needs, laws, name-laws))
-    (λ c κs. search (needs, laws, name-laws))
-    (λ c. search (needs, laws, name-laws))
-    (λ c. search (needs, laws, name-laws))
-    (λ c. search (needs, laws, name-laws))
-    (λ c. search (needs, laws, name-laws))
-    (λ c. search (needs, laws, name-laws)))
+    (λ c. search (needs, name-laws))
+    (λ c κs. search (needs, name-laws))
+    (λ c. search (needs, name-laws))
+    (λ c. search (needs, name-laws))
+    (λ c. search (needs, name-laws))
+    (λ c. search (needs, name-laws))
+    (λ c. search (needs, name-laws)))

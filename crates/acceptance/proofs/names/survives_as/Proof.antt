@@ -1,6 +1,6 @@
 -- `survives_as`: each way out is a law.
 use borrow.Author.Needs.{needs}
-use Rattle.acceptance.specs.Exits.{laws}
+use Rattle.acceptance.specs.Exits.{name-laws}
 use Rattle.acceptance.proofs.names.survives_as.Statement.{statement}
 use Rattle.acceptance.proofs.names.survives_as.Tie as tie
 
@@ -8,7 +8,7 @@ pub survives-as-spec : {M : Type 1} → statement M
 survives-as-spec =
     tie.close
     (tie.spec
-    (λ c κs. search (needs, laws))
-    (λ c. search (needs, laws))
-    (λ c. search (needs, laws))
-    (λ c. search (needs, laws)))
+    (λ c κs. search (needs, name-laws))
+    (λ c. search (needs, name-laws))
+    (λ c. search (needs, name-laws))
+    (λ c. search (needs, name-laws)))

@@ -1,6 +1,6 @@
 -- `version_chained`: a search.
 use borrow.Author.Needs.{needs}
-use Rattle.acceptance.specs.Exits.{laws, version-laws}
+use Rattle.acceptance.specs.Exits.{version-laws}
 use Prim.Native.Nat.{_-_}
 use Rattle.search.specs.First.{Sought}
 use Rattle.image.specs.Layout.{header}
@@ -20,11 +20,11 @@ version-chained-spec =
     (tie.spec
     Inv-loop
     μ-loop
-    (λ c κs. search (needs, laws, version-laws))
-    (λ c. search (needs, laws, version-laws))
-    (λ c κs. search (needs, laws, version-laws))
-    (λ c. search (needs, laws, version-laws))
-    (λ c. search (needs, laws, version-laws))
-    (λ c. search (needs, laws, version-laws))
-    (λ c. search (needs, laws, version-laws))
-    (λ c. search (needs, laws, version-laws)))
+    (λ c κs. search (needs, version-laws))
+    (λ c. search (needs, version-laws))
+    (λ c κs. search (needs, version-laws))
+    (λ c. search (needs, version-laws))
+    (λ c. search (needs, version-laws))
+    (λ c. search (needs, version-laws))
+    (λ c. search (needs, version-laws))
+    (λ c. search (needs, version-laws)))
