@@ -1,15 +1,16 @@
 -- 01, "Where each call can decline": what recovery refuses in an image, numbers 1 to 4.
-use Prim.Native.Nat.{ℕ, _+_}
+use Prim.Native.Nat.{ℕ}
 use mathlib.Core.Bool.{Bool, not, _&&_, _||_}
 use mathlib.Core.List.{List}
 use lib.Dec.{leb, eqb}
 use Rattle.search.specs.Some.{some, every}
 use Rattle.reply.specs.declared.Check.{Check}
 use Rattle.reply.specs.declared.Check.the-variants.{Accepted}
-use Rattle.reply.specs.declared.Refusal.the-variants.{Sizes, Clock, BadSlot, Duplicate}
+use Rattle.reply.specs.declared.Refusal.the-variants.{BadSizes, BadClock, BadSlot, Duplicate}
 use Rattle.reply.specs.Refusals.{refuse, andThen}
 use Rattle.image.specs.declared.header.Header.{Header}
-use Rattle.image.specs.Layout.{filledKind, header, keyAt, slotsOf, widthOf, clockOf, shapeOk, clockOk}
+use Rattle.image.specs.Layout.{mostNumber, filledKind, header, slotsOf, widthOf, clockOf, shapeOk, clockOk}
+use Rattle.image.specs.Name.{Name, nameAt, sameName, unnamed}
 use Rattle.survival.specs.Survivors.{kept, survivor}
 
 -- "A free mark is three zeros"
@@ -18,14 +19,14 @@ blankHeader h = eqb (h .kind) 0 && (eqb (h .epoch) 0 && eqb (h .uid) 0)
 
 -- "A filled mark has a label from 2 to the clock and a uid from 1 to 4,000,000,000."
 unfoldable pub filledHeader : ℕ → Header → Bool
-filledHeader c h = filledKind (h .kind) && (leb 2 (h .epoch) && (leb (h .epoch) c && (leb 1 (h .uid) && leb (h .uid) 4000000000)))
+filledHeader c h = filledKind (h .kind) && (leb 2 (h .epoch) && (leb (h .epoch) c && (leb 1 (h .uid) && leb (h .uid) mostNumber)))
 
 unfoldable pub proper : ℕ → Header → Bool
 proper c h = blankHeader h || filledHeader c h
 
 -- "a survivor with key 0"
 unfoldable pub nameless : List ℕ → ℕ → ℕ → ℕ → Bool
-nameless l n w s = survivor l n s && eqb (keyAt l n w s) 0
+nameless l n w s = survivor l n s && unnamed (nameAt l n w s)
 
 unfoldable pub allProper : List ℕ → ℕ → Bool
 allProper l n = every (λ s. proper (clockOf l) (header l s)) n
@@ -37,6 +38,10 @@ someNameless l n w = some (nameless l n w) n
 unfoldable pub sameVersion : ℕ → Header → Header → Bool
 sameVersion c h g = kept c g && (eqb (g .uid) (h .uid) && eqb (g .epoch) (h .epoch))
 
+-- slot t is of the version of h
+unfoldable pub versionIn : ℕ → Header → List ℕ → ℕ → Bool
+versionIn c h l t = sameVersion c h (header l t)
+
 -- "two kept slots equal in uid and label": slot s is kept, and some slot below it is of the same version
 unfoldable pub versionBelow : ℕ → (ℕ → Header) → ℕ → Bool
 versionBelow c hs s = kept c (hs s) && some (λ t. sameVersion c (hs s) (hs t)) s
@@ -44,27 +49,27 @@ versionBelow c hs s = kept c (hs s) && some (λ t. sameVersion c (hs s) (hs t)) 
 unfoldable pub versionTwice : List ℕ → ℕ → Bool
 versionTwice l n = some (versionBelow (clockOf l) (header l)) n
 
--- a survivor of that key
-unfoldable pub survivesAs : List ℕ → ℕ → ℕ → ℕ → ℕ → Bool
-survivesAs l n w key t = survivor l n t && eqb (keyAt l n w t) key
+-- a survivor of that name
+unfoldable pub survivesAs : List ℕ → ℕ → ℕ → Name → ℕ → Bool
+survivesAs l n w name t = survivor l n t && sameName (nameAt l n w t) name
 
--- "two survivors equal in key": slot s survives, and so does some slot below it with the same key
-unfoldable pub keyBelow : List ℕ → ℕ → ℕ → ℕ → Bool
-keyBelow l n w s = survivor l n s && some (survivesAs l n w (keyAt l n w s)) s
+-- "two survivors equal in key": slot s survives, and so does some slot below it with the same name
+unfoldable pub nameBelow : List ℕ → ℕ → ℕ → ℕ → Bool
+nameBelow l n w s = survivor l n s && some (survivesAs l n w (nameAt l n w s)) s
 
-unfoldable pub keyTwice : List ℕ → ℕ → ℕ → Bool
-keyTwice l n w = some (keyBelow l n w) n
+unfoldable pub nameTwice : List ℕ → ℕ → ℕ → Bool
+nameTwice l n w = some (nameBelow l n w) n
 
 -- 1: "N, W .. outside its range; image length wrong"; 2: "clock outside 2 to 4,000,000,000"
 unfoldable pub headCheck : List ℕ → Check
-headCheck l = refuse (not (shapeOk l)) Sizes (refuse (not (clockOk (clockOf l))) Clock Accepted)
+headCheck l = refuse (not (shapeOk l)) BadSizes (refuse (not (clockOk (clockOf l))) BadClock Accepted)
 
 -- 3: "a mark neither three zeros nor properly filled; a survivor with key 0";
 -- 4: "two kept slots equal in uid and label, or two survivors equal in key"
 unfoldable pub slotsCheck : List ℕ → ℕ → ℕ → Check
 slotsCheck l n w =
     refuse (not (allProper l n) || someNameless l n w) BadSlot
-    (refuse (versionTwice l n || keyTwice l n w) Duplicate Accepted)
+    (refuse (versionTwice l n || nameTwice l n w) Duplicate Accepted)
 
 unfoldable pub imageCheck : List ℕ → Check
 imageCheck l = andThen (headCheck l) (slotsCheck l (slotsOf l) (widthOf l))

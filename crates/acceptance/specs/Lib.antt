@@ -1,5 +1,6 @@
 pub mod Accept
-pub mod Sound
-pub mod Code
 pub mod Questions
-pub mod Twice
+pub mod Requires
+pub mod Laws
+pub mod Sound
+pub mod Exits

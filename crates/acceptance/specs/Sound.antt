@@ -10,33 +10,34 @@ use native.Mathlib.Omega.{arith}
 use Rattle.search.specs.Bools.{cases, and-left, and-right, and-both, or-left, or-right}
 use Rattle.search.specs.Some.{some, some-none, none-some, every, every-at, at-every}
 use Rattle.reply.specs.declared.Check.the-variants.{Accepted}
-use Rattle.reply.specs.declared.Refusal.the-variants.{Sizes, Clock, BadSlot, Duplicate}
+use Rattle.reply.specs.declared.Refusal.the-variants.{BadSizes, BadClock, BadSlot, Duplicate}
 use Rattle.reply.specs.Refusals.{refuse, not-refused, both-accepted}
 use Rattle.image.specs.declared.header.Header.{Header}
-use Rattle.image.specs.Layout.{filledKind, header, slotsOf, widthOf, clockOf, sizesOk, shapeOk, clockOk, Sized}
-use Rattle.image.specs.Code.{shaped}
-use Rattle.acceptance.specs.Accept.{blankHeader, filledHeader, proper, allProper, nameless, someNameless, versionBelow, versionTwice, keyBelow, keyTwice, headCheck, slotsCheck, imageCheck}
+use Rattle.image.specs.Layout.{mostSlots, mostNumber, filledKind, header, slotsOf, widthOf, clockOf, sizesOk, shapeOk, clockOk}
+use Rattle.image.specs.Requires.{Sized}
+use Rattle.acceptance.specs.Accept.{blankHeader, filledHeader, proper, allProper, nameless, someNameless, versionBelow, versionTwice, nameBelow, nameTwice, headCheck, slotsCheck, imageCheck}
+use Rattle.acceptance.specs.Laws.{image-sized}
 
 pub record Sound (l : List ℕ) (n w : ℕ) : Type 0 where
   pub all-proper : (s : ℕ) → s < n → proper (clockOf l) (header l s) ≡ true
   pub named : (s : ℕ) → s < n → nameless l n w s ≡ false
   pub versions : (s : ℕ) → s < n → versionBelow (clockOf l) (header l) s ≡ false
-  pub keys : (s : ℕ) → s < n → keyBelow l n w s ≡ false
+  pub names : (s : ℕ) → s < n → nameBelow l n w s ≡ false
 
 pub sound : (l : List ℕ) (n w : ℕ) → slotsCheck l n w ≡ Accepted → Sound l n w
-unfolding slotsCheck allProper someNameless versionTwice keyTwice
+unfolding slotsCheck allProper someNameless versionTwice nameTwice
 sound l n w e =
     let p = every (λ s. proper (clockOf l) (header l s)) n in
     let k = some (nameless l n w) n in
     let v = some (versionBelow (clockOf l) (header l)) n in
-    let y = some (keyBelow l n w) n in
+    let y = some (nameBelow l n w) n in
     let one = not-refused (not p || k) BadSlot (refuse (v || y) Duplicate Accepted) e in
     let two = not-refused (v || y) Duplicate Accepted (one .1) in
     record {
       all-proper = every-at (λ s. proper (clockOf l) (header l s)) n (not-false p (or-left (not p) k (one .0)));
       named = some-none (nameless l n w) n (or-right (not p) k (one .0));
       versions = some-none (versionBelow (clockOf l) (header l)) n (or-left v y (two .0));
-      keys = some-none (keyBelow l n w) n (or-right v y (two .0));
+      names = some-none (nameBelow l n w) n (or-right v y (two .0));
     }
 
 -- a proper header is free, or filled within its bounds
@@ -45,7 +46,7 @@ pub record FilledOk (c : ℕ) (h : Header) : Type 0 where
   pub epoch-lo : 2 ≤ h .epoch
   pub epoch-hi : h .epoch ≤ c
   pub uid-lo : 1 ≤ h .uid
-  pub uid-hi : h .uid ≤ 4000000000
+  pub uid-hi : h .uid ≤ mostNumber
 
 pub record FreeOk (h : Header) : Type 0 where
   pub kind-is : h .kind ≡ 0
@@ -59,7 +60,7 @@ filled-ok c h e =
     let a = leb 2 (h .epoch) in
     let b = leb (h .epoch) c in
     let d = leb 1 (h .uid) in
-    let u = leb (h .uid) 4000000000 in
+    let u = leb (h .uid) mostNumber in
     let e1 = and-right k (a && (b && (d && u))) e in
     let e2 = and-right a (b && (d && u)) e1 in
     let e3 = and-right b (d && u) e2 in
@@ -68,7 +69,7 @@ filled-ok c h e =
       epoch-lo = leb-true 2 (h .epoch) (and-left a (b && (d && u)) e1);
       epoch-hi = leb-true (h .epoch) c (and-left b (d && u) e2);
       uid-lo = leb-true 1 (h .uid) (and-left d u e3);
-      uid-hi = leb-true (h .uid) 4000000000 (and-right d u e3);
+      uid-hi = leb-true (h .uid) mostNumber (and-right d u e3);
     }
 
 free-ok : (h : Header) → blankHeader h ≡ true → FreeOk h
@@ -92,14 +93,14 @@ proper-cases c h e =
     (λ (b : blankHeader h ≡ false). let f : filledHeader c h ≡ true = rw b at e in inr (filled-ok c h f))
     (cases (blankHeader h))
 
-pub uid-top : (c : ℕ) (h : Header) → proper c h ≡ true → h .uid ≤ 4000000000
+pub uid-top : (c : ℕ) (h : Header) → proper c h ≡ true → h .uid ≤ mostNumber
 uid-top c h e = ⊎-elim (λ (f : FreeOk h). omega arith) (λ (f : FilledOk c h). omega arith) (proper-cases c h e)
 
 -- ---- an accepted image, as facts
 pub record Accepts (l : List ℕ) : Type 0 where
   pub sized : Sized l (slotsOf l) (widthOf l)
   pub clock-lo : 2 ≤ clockOf l
-  pub clock-hi : clockOf l ≤ 4000000000
+  pub clock-hi : clockOf l ≤ mostNumber
   pub sound : Sound l (slotsOf l) (widthOf l)
 
 -- from the check to the facts ..
@@ -107,12 +108,12 @@ pub accepted-says : (l : List ℕ) → imageCheck l ≡ Accepted → Accepts l
 unfolding imageCheck headCheck clockOk
 accepted-says l e =
     let both = both-accepted (headCheck l) (slotsCheck l (slotsOf l) (widthOf l)) e in
-    let shape = not-refused (not (shapeOk l)) Sizes (refuse (not (clockOk (clockOf l))) Clock Accepted) (both .0) in
-    let clock = not-false (clockOk (clockOf l)) (not-refused (not (clockOk (clockOf l))) Clock Accepted (shape .1) .0) in
+    let shape = not-refused (not (shapeOk l)) BadSizes (refuse (not (clockOk (clockOf l))) BadClock Accepted) (both .0) in
+    let clock = not-false (clockOk (clockOf l)) (not-refused (not (clockOk (clockOf l))) BadClock Accepted (shape .1) .0) in
     record {
-      sized = shaped l (not-false (shapeOk l) (shape .0));
+      sized = image-sized l e;
       clock-lo = leb-true 2 (clockOf l) (and-left (leb 2 (clockOf l)) _ clock);
-      clock-hi = leb-true (clockOf l) 4000000000 (and-right (leb 2 (clockOf l)) _ clock);
+      clock-hi = leb-true (clockOf l) mostNumber (and-right (leb 2 (clockOf l)) _ clock);
       sound = sound l (slotsOf l) (widthOf l) (both .1);
     }
 
@@ -122,12 +123,12 @@ unfolding shapeOk sizesOk
 says-shape l z =
     let s = z .sizes in
     and-both
-    (and-both (le-leb 2 _ (s .slots-lo)) (and-both (le-leb _ 1024 (s .slots-hi)) (and-both (le-leb 2 _ (s .width-lo)) (le-leb _ 9 (s .width-hi)))))
+    (and-both (le-leb 2 _ (s .slots-lo)) (and-both (le-leb _ mostSlots (s .slots-hi)) (and-both (le-leb 2 _ (s .width-lo)) (le-leb _ 9 (s .width-hi)))))
     (eq-eqb _ _ (z .long))
 
 -- .. and back
 pub says-accepted : (l : List ℕ) → Accepts l → imageCheck l ≡ Accepted
-unfolding imageCheck headCheck clockOk slotsCheck allProper someNameless versionTwice keyTwice
+unfolding imageCheck headCheck clockOk slotsCheck allProper someNameless versionTwice nameTwice
 says-accepted l a =
     let n = slotsOf l in
     let w = widthOf l in
@@ -135,9 +136,9 @@ says-accepted l a =
     rw (
       says-shape l (a .sized),
       le-leb 2 (clockOf l) (a .clock-lo),
-      le-leb (clockOf l) 4000000000 (a .clock-hi),
+      le-leb (clockOf l) mostNumber (a .clock-hi),
       at-every (λ t. proper (clockOf l) (header l t)) n (s .all-proper),
       none-some (nameless l n w) n (s .named),
       none-some (versionBelow (clockOf l) (header l)) n (s .versions),
-      none-some (keyBelow l n w) n (s .keys),
+      none-some (nameBelow l n w) n (s .names),
     )

@@ -1,5 +1,5 @@
 // What recovery refuses in an image: refusals 1 to 4.
-pub mod keys;
+pub mod names;
 pub mod questions;
 pub mod versions;
 
@@ -7,10 +7,10 @@ use image::header::Header;
 use reply::Check;
 use reply::Refusal;
 ghost use mathlib.Core.Path.{_≡_};
-ghost use Prim.Native.Nat.{_≤_};
-ghost use Rattle.image.specs.Layout.{HeaderFits, header, Sized};
+ghost use Rattle.image.specs.Layout.{header};
+ghost use Rattle.image.specs.Requires.{HeaderFits, Sized};
+ghost use Rattle.survival.specs.Requires.{Headers, SlotMarked, AllMarked};
 ghost use Rattle.acceptance.specs.Accept.{blankHeader, filledHeader, proper, allProper, nameless, someNameless, headCheck, slotsCheck, imageCheck};
-ghost use Rattle.survival.specs.Code.{Headers, Marked, SlotMarked, AllMarked};
 
 fn blank_header(h: Header) -> bool
     ensures { λ r. ⌜ r ≡ blankHeader h ⌝ }
@@ -37,7 +37,7 @@ fn filled_header(h: Header, c: u32) -> bool
         if h.uid < 1 {
             return false;
         }
-        h.uid <= 4000000000
+        h.uid <= image::shape::MOST_NUMBER
     } else {
         false
     }
@@ -103,10 +103,10 @@ pub fn check_head(img: &[u32]) -> Check
         if image::shape::clock_ok(image::shape::clock(img)) {
             Check::Accepted
         } else {
-            Check::Refused(Refusal::Clock)
+            Check::Refused(Refusal::BadClock)
         }
     } else {
-        Check::Refused(Refusal::Sizes)
+        Check::Refused(Refusal::BadSizes)
     }
 }
 
@@ -122,7 +122,7 @@ pub fn check_slots(img: &[u32], flags: &[bool; 1024], n: usize, w: usize) -> Che
         if versions::version_twice(img, n) {
             return Check::Refused(Refusal::Duplicate);
         }
-        if keys::key_twice(img, flags, n, w) {
+        if names::name_twice(img, flags, n, w) {
             return Check::Refused(Refusal::Duplicate);
         }
         Check::Accepted

@@ -1,7 +1,7 @@
 // What an image answers by itself: its clock, and how many jobs survive in it.
 use reply::Check;
 ghost use mathlib.Core.Path.{_≡_};
-ghost use Rattle.image.specs.Layout.{Sized};
+ghost use Rattle.image.specs.Requires.{Sized};
 ghost use Rattle.acceptance.specs.Questions.{clockAnswer, survivorsAnswer, survivorsPast, bytesOk};
 
 // Is this the byte count of whole words, no more than the largest image has?
@@ -31,7 +31,7 @@ fn survivors_sized(img: &[u32], n: usize, w: usize) -> u64
     let flags = survival::survivors(img, n);
     match crate::check_slots(img, &flags, n, w) {
         Check::Refused(r) => reply::declined(r),
-        Check::Accepted => survival::count(img, &flags, n) as u64,
+        Check::Accepted => survival::survivor_count(img, &flags, n) as u64,
     }
 }
 

@@ -1,12 +1,12 @@
 // Two kept slots of one uid and one epoch. A slot is held only against those of the chain of its uid.
 use image::header::Header;
 ghost use mathlib.Core.Path.{_≡_};
-ghost use Rattle.image.specs.Layout.{HeaderFits, header};
-ghost use Rattle.survival.specs.Code.{Headers};
-ghost use Rattle.survival.specs.Uids.{Unlinked};
-ghost use Rattle.acceptance.specs.Accept.{sameVersion, versionBelow, versionTwice};
-ghost use Rattle.acceptance.specs.Twice.{UidChains, UidsAt, VersionOf, versionIn};
 ghost use Rattle.search.specs.Some.{some};
+ghost use Rattle.image.specs.Layout.{header};
+ghost use Rattle.image.specs.Requires.{HeaderFits};
+ghost use Rattle.survival.specs.Requires.{Headers, UidsUnlinked};
+ghost use Rattle.acceptance.specs.Accept.{sameVersion, versionIn, versionBelow, versionTwice};
+ghost use Rattle.acceptance.specs.Requires.{UidChains, UidsAt, VersionOf};
 
 fn same_version_at(img: &[u32], n: usize, c: u32, h: Header, t: usize) -> bool
     requires { ⌜ HeaderFits (now img) n t ⌝ }
@@ -66,7 +66,7 @@ fn version_chained(img: &[u32], below: &[u32], n: usize) -> bool
 }
 
 fn version_twice_in(img: &[u32], heads: &mut [u32], below: &mut [u32], n: usize) -> bool
-    requires { ⌜ Unlinked (now img) n (now heads) (now below) ⌝ }
+    requires { ⌜ UidsUnlinked (now img) n (now heads) (now below) ⌝ }
     ensures { λ r. ⌜ r ≡ versionTwice (now (img .entry)) n ⌝ }
 {
     survival::link_uids(img, heads, below, n);

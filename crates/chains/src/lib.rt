@@ -2,7 +2,8 @@
 ghost use mathlib.Core.Path.{_≡_};
 ghost use Prim.Native.Nat.{_+_};
 ghost use lib.ListN.{getD, set};
-ghost use Rattle.chains.specs.Chains.{spot, Spots, Place};
+ghost use Rattle.chains.specs.Chains.{spot};
+ghost use Rattle.chains.specs.Requires.{Spots, LinkPlace};
 
 // The spot of a number: the rest by a prime, so that numbers with a common step spread. A board of at most 64 slots has
 // 64 spots, which are cleared sooner.
@@ -27,7 +28,7 @@ pub fn head(heads: &[u32], n: usize, x: u32) -> usize
 
 // Slot `s` of number `x` becomes the head of its chain.
 pub fn link(heads: &mut [u32], below: &mut [u32], n: usize, s: usize, x: u32)
-    requires { ⌜ Place n s (now heads) (now below) ⌝ }
+    requires { ⌜ LinkPlace n s (now heads) (now below) ⌝ }
     ensures { λ _. ⌜ (now (heads .exit) ≡ set (now (heads .entry)) (spot n x) (s + 1)) × (now (below .exit) ≡ set (now (below .entry)) s (getD (now (heads .entry)) (spot n x) 0)) ⌝ }
 {
     let b = spot(n, x);

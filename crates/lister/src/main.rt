@@ -5,8 +5,8 @@ use reply::Check;
 use reply::Refusal;
 ghost use mathlib.Core.Path.{_≡_};
 ghost use lib.ListN.{length};
-ghost use Rattle.image.specs.Layout.{Sized, Slot};
-ghost use Rattle.survival.specs.Code.{AllMarked, SlotMarked};
+ghost use Rattle.image.specs.Requires.{Sized, Slot};
+ghost use Rattle.survival.specs.Requires.{AllMarked};
 
 fn print_number(x: u32) {
     io::print_decimal(STDOUT_FILENO, x as u64);
@@ -46,7 +46,7 @@ fn print_slot(img: &[u32], n: usize, w: usize, s: usize)
     requires { ⌜ Slot (now img) n w s ⌝ }
 {
     io::print_decimal(STDOUT_FILENO, s as u64);
-    let b = 3 + image::header::Header::WORDS * n + w * s;
+    let b = image::contents::contents_at(n, w, s);
     let e = b + w;
     print_words(&img[b..e]);
     io::write_all(STDOUT_FILENO, b"\n");
@@ -68,7 +68,10 @@ fn list_accepted(img: &[u32], n: usize, w: usize)
     requires { ⌜ Sized (now img) n w ⌝ }
 {
     let flags = survival::survivors(img, n);
-    print_head(image::shape::clock(img), survival::count(img, &flags, n));
+    print_head(
+        image::shape::clock(img),
+        survival::survivor_count(img, &flags, n),
+    );
     print_survivors(img, &flags, n, w);
 }
 
@@ -91,7 +94,7 @@ fn list_bytes(bytes: &[u8], words: &mut [u32])
         image::bytes::decode(bytes, words, k);
         list_image(&words[..k]);
     } else {
-        print_refusal(Refusal::Sizes);
+        print_refusal(Refusal::BadSizes);
     }
 }
 
@@ -106,7 +109,7 @@ fn main() {
     let mut words = [0u32; 12291];
     let n = io::read_full(STDIN_FILENO, &mut bytes);
     if more_input() {
-        print_refusal(Refusal::Sizes);
+        print_refusal(Refusal::BadSizes);
     } else {
         list_bytes(&bytes[..n], &mut words);
     }

@@ -1,3 +1,5 @@
 pub mod Survivors
-pub mod Code
-pub mod Uids
+pub mod Requires
+pub mod Laws
+pub mod Flagging
+pub mod Exits

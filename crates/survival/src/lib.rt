@@ -1,10 +1,10 @@
 // Which slots of an image survive a crash: kept, wins, survives.
 use image::header::Header;
 ghost use mathlib.Core.Path.{_≡_};
-ghost use Rattle.image.specs.Layout.{HeaderFits, header};
+ghost use Rattle.image.specs.Layout.{header};
+ghost use Rattle.image.specs.Requires.{HeaderFits};
 ghost use Rattle.survival.specs.Survivors.{kept, beats, beaten, survives, keptAnti, survivorCount};
-ghost use Rattle.survival.specs.Code.{Headers, Marked};
-ghost use Rattle.survival.specs.Uids.{Unlinked, Chained, ChainedAt};
+ghost use Rattle.survival.specs.Requires.{Headers, Marked, UidsUnlinked, UidsLinked, UidsLinkedAt};
 
 pub fn kept(h: Header, c: u32) -> bool
     ensures { λ r. ⌜ r ≡ kept c h ⌝ }
@@ -31,8 +31,8 @@ fn beats_at(img: &[u32], n: usize, c: u32, h: Header, t: usize) -> bool
 
 // The slots by their uids, each linked to the next one below of the same spot.
 pub fn link_uids(img: &[u32], heads: &mut [u32], below: &mut [u32], n: usize)
-    requires { ⌜ Unlinked (now img) n (now heads) (now below) ⌝ }
-    ensures { λ _. ⌜ Chained (now (img .entry)) n (now (heads .exit)) (now (below .exit)) ⌝ }
+    requires { ⌜ UidsUnlinked (now img) n (now heads) (now below) ⌝ }
+    ensures { λ _. ⌜ UidsLinked (now (img .entry)) n (now (heads .exit)) (now (below .exit)) ⌝ }
 {
     let mut s = 0;
     while s < n {
@@ -44,7 +44,7 @@ pub fn link_uids(img: &[u32], heads: &mut [u32], below: &mut [u32], n: usize)
 
 // Only the chain of its uid can hold a header that beats it.
 fn beaten(img: &[u32], heads: &[u32], below: &[u32], n: usize, c: u32, h: Header) -> bool
-    requires { ⌜ Chained (now img) n (now heads) (now below) ⌝ }
+    requires { ⌜ UidsLinked (now img) n (now heads) (now below) ⌝ }
     ensures { λ r. ⌜ r ≡ beaten c (header (now (img .entry))) n h ⌝ }
 {
     let mut k = chains::head(heads, n, h.uid);
@@ -58,7 +58,7 @@ fn beaten(img: &[u32], heads: &[u32], below: &[u32], n: usize, c: u32, h: Header
 }
 
 fn survives(img: &[u32], heads: &[u32], below: &[u32], n: usize, c: u32, s: usize) -> bool
-    requires { ⌜ ChainedAt (now img) n s (now heads) (now below) ⌝ }
+    requires { ⌜ UidsLinkedAt (now img) n s (now heads) (now below) ⌝ }
     ensures { λ r. ⌜ r ≡ survives c (header (now (img .entry))) n s ⌝ }
 {
     let h = image::header::header_at(img, n, s);
@@ -78,7 +78,7 @@ fn survives(img: &[u32], heads: &[u32], below: &[u32], n: usize, c: u32, s: usiz
 }
 
 fn survivors_chained(img: &[u32], heads: &[u32], below: &[u32], n: usize) -> [bool; 1024]
-    requires { ⌜ Chained (now img) n (now heads) (now below) ⌝ }
+    requires { ⌜ UidsLinked (now img) n (now heads) (now below) ⌝ }
     ensures { λ r. ⌜ Marked (now (img .entry)) n r ⌝ }
 {
     let c = image::shape::clock(img);
@@ -92,7 +92,7 @@ fn survivors_chained(img: &[u32], heads: &[u32], below: &[u32], n: usize) -> [bo
 }
 
 fn survivors_in(img: &[u32], heads: &mut [u32], below: &mut [u32], n: usize) -> [bool; 1024]
-    requires { ⌜ Unlinked (now img) n (now heads) (now below) ⌝ }
+    requires { ⌜ UidsUnlinked (now img) n (now heads) (now below) ⌝ }
     ensures { λ r. ⌜ Marked (now (img .entry)) n r ⌝ }
 {
     link_uids(img, heads, below, n);
@@ -116,7 +116,7 @@ pub fn survivors(img: &[u32], n: usize) -> [bool; 1024]
 }
 
 // How many flags are set.
-pub fn count(img: &[u32], flags: &[bool; 1024], n: usize) -> usize
+pub fn survivor_count(img: &[u32], flags: &[bool; 1024], n: usize) -> usize
     requires { ⌜ Marked (now img) n (now flags) ⌝ }
     ensures { λ r. ⌜ r ≡ survivorCount (now (img .entry)) n ⌝ }
 {

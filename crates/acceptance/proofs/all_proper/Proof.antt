@@ -1,12 +1,10 @@
 -- `all_proper`: the headers passed are proper (`Held`).
 use borrow.Author.Needs.{needs}
-use Rattle.survival.specs.Code.{laws}
+use Rattle.acceptance.specs.Exits.{laws}
 use Prim.Native.Nat.{_-_}
 use Rattle.search.specs.Some.{Held}
 use Rattle.image.specs.Layout.{header}
 use Rattle.acceptance.specs.Accept.{proper}
-use Rattle.survival.specs.Code.{marks}
-use Rattle.acceptance.specs.Code.{checks}
 use Rattle.acceptance.proofs.all_proper.Statement.{statement}
 use Rattle.acceptance.proofs.all_proper.Tie as tie
 
@@ -22,11 +20,11 @@ all-proper-spec =
     (tie.spec
     Inv-loop
     μ-loop
-    (λ c κs. search (needs, laws, marks, checks))
-    (λ c. search (needs, laws, marks, checks))
-    (λ c κs. search (needs, laws, marks, checks))
-    (λ c. search (needs, laws, marks, checks))
-    (λ c. search (needs, laws, marks, checks))
-    (λ c. search (needs, laws, marks, checks))
-    (λ c. search (needs, laws, marks, checks))
-    (λ c. search (needs, laws, marks, checks)))
+    (λ c κs. search (needs, laws))
+    (λ c. search (needs, laws))
+    (λ c κs. search (needs, laws))
+    (λ c. search (needs, laws))
+    (λ c. search (needs, laws))
+    (λ c. search (needs, laws))
+    (λ c. search (needs, laws))
+    (λ c. search (needs, laws)))

@@ -1,8 +1,6 @@
 -- `nameless_at`: each way out is a law.
 use borrow.Author.Needs.{needs}
-use Rattle.survival.specs.Code.{laws}
-use Rattle.survival.specs.Code.{marks}
-use Rattle.acceptance.specs.Code.{checks}
+use Rattle.acceptance.specs.Exits.{laws}
 use Rattle.acceptance.proofs.nameless_at.Statement.{statement}
 use Rattle.acceptance.proofs.nameless_at.Tie as tie
 
@@ -10,7 +8,7 @@ pub nameless-at-spec : {M : Type 1} → statement M
 nameless-at-spec =
     tie.close
     (tie.spec
-    (λ c. search (needs, laws, marks, checks))
-    (λ c κs. search (needs, laws, marks, checks))
-    (λ c. search (needs, laws, marks, checks))
-    (λ c. search (needs, laws, marks, checks)))
+    (λ c. search (needs, laws))
+    (λ c κs. search (needs, laws))
+    (λ c. search (needs, laws))
+    (λ c. search (needs, laws)))

@@ -1,11 +1,9 @@
 -- `some_nameless`: a search.
 use borrow.Author.Needs.{needs}
-use Rattle.survival.specs.Code.{laws}
+use Rattle.acceptance.specs.Exits.{laws}
 use Prim.Native.Nat.{_-_}
 use Rattle.search.specs.First.{Sought}
 use Rattle.acceptance.specs.Accept.{nameless}
-use Rattle.survival.specs.Code.{marks}
-use Rattle.acceptance.specs.Code.{checks}
 use Rattle.acceptance.proofs.some_nameless.Statement.{statement}
 use Rattle.acceptance.proofs.some_nameless.Tie as tie
 
@@ -21,10 +19,10 @@ some-nameless-spec =
     (tie.spec
     Inv-loop
     μ-loop
-    (λ c. search (needs, laws, marks, checks))
-    (λ c κs. search (needs, laws, marks, checks))
-    (λ c. search (needs, laws, marks, checks))
-    (λ c. search (needs, laws, marks, checks))
-    (λ c. search (needs, laws, marks, checks))
-    (λ c. search (needs, laws, marks, checks))
-    (λ c. search (needs, laws, marks, checks)))
+    (λ c. search (needs, laws))
+    (λ c κs. search (needs, laws))
+    (λ c. search (needs, laws))
+    (λ c. search (needs, laws))
+    (λ c. search (needs, laws))
+    (λ c. search (needs, laws))
+    (λ c. search (needs, laws)))

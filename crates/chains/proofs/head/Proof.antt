@@ -1,6 +1,6 @@
 -- `head`: one way out.
 use borrow.Author.Needs.{needs}
-use Rattle.chains.specs.Chains.{laws}
+use Rattle.chains.specs.Exits.{laws}
 use Rattle.chains.proofs.head.Statement.{statement}
 use Rattle.chains.proofs.head.Tie as tie
 

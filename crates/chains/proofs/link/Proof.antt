@@ -1,6 +1,6 @@
 -- `link`: one way out.
 use borrow.Author.Needs.{needs}
-use Rattle.chains.specs.Chains.{laws}
+use Rattle.chains.specs.Exits.{laws}
 use Rattle.chains.proofs.link.Statement.{statement}
 use Rattle.chains.proofs.link.Tie as tie
 

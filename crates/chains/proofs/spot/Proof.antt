@@ -1,6 +1,6 @@
 -- `spot`: each way out is a law.
 use borrow.Author.Needs.{needs}
-use Rattle.chains.specs.Chains.{laws}
+use Rattle.chains.specs.Exits.{laws}
 use Rattle.chains.proofs.spot.Statement.{statement}
 use Rattle.chains.proofs.spot.Tie as tie
 

@@ -1,6 +1,6 @@
 -- `list_bytes`: each way out is a law.
 use borrow.Author.Needs.{needs}
-use Rattle.lister.specs.Code.{laws}
+use Rattle.lister.specs.Exits.{laws}
 use Rattle.lister.proofs.list_bytes.Statement.{statement}
 use Rattle.lister.proofs.list_bytes.Tie as tie
 

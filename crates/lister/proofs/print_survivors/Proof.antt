@@ -1,6 +1,6 @@
 -- `print_survivors`: the loop ends, and each slot is one of n.
 use borrow.Author.Needs.{needs}
-use Rattle.lister.specs.Code.{laws}
+use Rattle.lister.specs.Exits.{laws}
 use Prim.Native.Nat.{_-_, _≤_}
 use Rattle.lister.proofs.print_survivors.Statement.{statement}
 use Rattle.lister.proofs.print_survivors.Tie as tie

@@ -1,6 +1,5 @@
 -- `print_words`: the loop ends.
 use borrow.Author.Needs.{needs}
-use Rattle.lister.specs.Code.{laws}
 use Prim.Native.Nat.{_-_, _≤_}
 use lib.ListN.{length}
 use Rattle.lister.proofs.print_words.Statement.{statement}
@@ -18,11 +17,11 @@ print-words-spec =
     (tie.spec
     Inv-loop
     μ-loop
-    (λ c. search (needs, laws))
-    (λ c. search (needs, laws))
-    (λ c. search (needs, laws))
-    (λ c κs. search (needs, laws))
-    (λ c. search (needs, laws))
-    (λ c. search (needs, laws))
-    (λ c. search (needs, laws))
-    (λ c. search (needs, laws)))
+    (λ c. search needs)
+    (λ c. search needs)
+    (λ c. search needs)
+    (λ c κs. search needs)
+    (λ c. search needs)
+    (λ c. search needs)
+    (λ c. search needs)
+    (λ c. search needs))

@@ -1,10 +1,8 @@
 -- `beaten`: a walk down the chain of the uid for a header that beats it.
 use borrow.Author.Needs.{needs}
-use Rattle.survival.specs.Code.{laws}
-use Rattle.chains.specs.Chains.{chains}
-use Rattle.survival.specs.Uids.{links}
-use Rattle.chains.specs.Chains.{Chased}
-use Rattle.survival.specs.Uids.{uids, beatsIn}
+use Rattle.survival.specs.Exits.{beatsIn, links}
+use Rattle.survival.specs.Requires.{uids}
+use Rattle.chains.specs.Chased.{Chased}
 use Rattle.survival.proofs.beaten.Statement.{statement}
 use Rattle.survival.proofs.beaten.Tie as tie
 
@@ -20,15 +18,15 @@ beaten-spec =
     (tie.spec
     Inv-loop
     μ-loop
-    (λ c κs. search (needs, laws, chains, links))
-    (λ c. search (needs, laws, chains, links))
-    (λ c. search (needs, laws, chains, links))
-    (λ c κs. search (needs, laws, chains, links))
-    (λ c. search (needs, laws, chains, links))
-    (λ c. search (needs, laws, chains, links))
-    (λ c. search (needs, laws, chains, links))
-    (λ c. search (needs, laws, chains, links))
-    (λ c κs. search (needs, laws, chains, links))
-    (λ c. search (needs, laws, chains, links))
-    (λ c. search (needs, laws, chains, links))
-    (λ c. search (needs, laws, chains, links)))
+    (λ c κs. search (needs, links))
+    (λ c. search (needs, links))
+    (λ c. search (needs, links))
+    (λ c κs. search (needs, links))
+    (λ c. search (needs, links))
+    (λ c. search (needs, links))
+    (λ c. search (needs, links))
+    (λ c. search (needs, links))
+    (λ c κs. search (needs, links))
+    (λ c. search (needs, links))
+    (λ c. search (needs, links))
+    (λ c. search (needs, links)))

@@ -1,6 +1,6 @@
 -- `beats_at`: each way out is a law.
 use borrow.Author.Needs.{needs}
-use Rattle.survival.specs.Code.{laws}
+use Rattle.survival.specs.Exits.{laws}
 use Rattle.survival.proofs.beats_at.Statement.{statement}
 use Rattle.survival.proofs.beats_at.Tie as tie
 

@@ -1,6 +1,6 @@
 -- `kept`: each way out is a law.
 use borrow.Author.Needs.{needs}
-use Rattle.survival.specs.Code.{laws}
+use Rattle.survival.specs.Exits.{laws}
 use Rattle.survival.proofs.kept.Statement.{statement}
 use Rattle.survival.proofs.kept.Tie as tie
 

@@ -1,6 +1,6 @@
 -- `kept_anti_at`: each way out is a law.
 use borrow.Author.Needs.{needs}
-use Rattle.survival.specs.Code.{laws}
+use Rattle.survival.specs.Exits.{laws}
 use Rattle.survival.proofs.kept_anti_at.Statement.{statement}
 use Rattle.survival.proofs.kept_anti_at.Tie as tie
 

@@ -1,9 +1,9 @@
 -- `link_uids`: the loop has linked s of n slots (`Linking`).
 use borrow.Author.Needs.{needs}
-use Rattle.survival.specs.Uids.{links}
+use Rattle.survival.specs.Exits.{links}
+use Rattle.survival.specs.Requires.{uids}
+use Rattle.chains.specs.Linking.{Linking}
 use Prim.Native.Nat.{_-_}
-use Rattle.chains.specs.Chains.{Linking}
-use Rattle.survival.specs.Uids.{uids}
 use Rattle.survival.proofs.link_uids.Statement.{statement}
 use Rattle.survival.proofs.link_uids.Tie as tie
 

@@ -1,7 +1,6 @@
 -- `survives`: each way out is a law.
 use borrow.Author.Needs.{needs}
-use Rattle.survival.specs.Code.{laws}
-use Rattle.survival.specs.Uids.{links}
+use Rattle.survival.specs.Exits.{laws, links}
 use Rattle.survival.proofs.survives.Statement.{statement}
 use Rattle.survival.proofs.survives.Tie as tie
 

@@ -1,7 +1,6 @@
 -- `survivors`: two ways, with words for the chains of few slots or of many.
 use borrow.Author.Needs.{needs}
-use Rattle.survival.specs.Code.{laws}
-use Rattle.survival.specs.Uids.{links}
+use Rattle.survival.specs.Exits.{laws, links}
 use Rattle.survival.proofs.survivors.Statement.{statement}
 use Rattle.survival.proofs.survivors.Tie as tie
 

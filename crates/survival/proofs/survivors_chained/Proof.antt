@@ -1,11 +1,10 @@
 -- `survivors_chained`: the loop has set s of n flags (`Flagging`).
 use borrow.Author.Needs.{needs}
-use Rattle.survival.specs.Code.{laws}
-use Rattle.survival.specs.Uids.{links}
+use Rattle.survival.specs.Exits.{laws, links}
+use Rattle.survival.specs.Flagging.{Flagging}
 use Prim.Native.Nat.{_-_}
 use Rattle.image.specs.Layout.{header}
 use Rattle.survival.specs.Survivors.{survives}
-use Rattle.survival.specs.Code.{Flagging}
 use Rattle.survival.proofs.survivors_chained.Statement.{statement}
 use Rattle.survival.proofs.survivors_chained.Tie as tie
 

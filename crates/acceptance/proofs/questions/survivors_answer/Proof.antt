@@ -1,9 +1,6 @@
 -- `survivors_answer`: each way out is a law.
 use borrow.Author.Needs.{needs}
-use Rattle.survival.specs.Code.{laws}
-use Rattle.survival.specs.Code.{marks}
-use Rattle.acceptance.specs.Code.{checks}
-use Rattle.acceptance.specs.Questions.{asks}
+use Rattle.acceptance.specs.Exits.{answer-laws}
 use Rattle.acceptance.proofs.questions.survivors_answer.Statement.{statement}
 use Rattle.acceptance.proofs.questions.survivors_answer.Tie as tie
 
@@ -11,14 +8,14 @@ pub survivors-answer-spec : {M : Type 1} → statement M
 survivors-answer-spec =
     tie.close
     (tie.spec
-    (λ c κs. search (needs, laws, marks, checks, asks))
-    (λ c. search (needs, laws, marks, checks, asks))
-    (λ c κs. search (needs, laws, marks, checks, asks))
-    (λ c. search (needs, laws, marks, checks, asks))
-    (λ c. search (needs, laws, marks, checks, asks))
-    (λ c κs. search (needs, laws, marks, checks, asks))
-    (λ c. search (needs, laws, marks, checks, asks))
-    (λ c κs. search (needs, laws, marks, checks, asks))
-    (λ c κs. search (needs, laws, marks, checks, asks))
-    (λ c. search (needs, laws, marks, checks, asks))
-    (λ c. search (needs, laws, marks, checks, asks)))
+    (λ c κs. search (needs, answer-laws))
+    (λ c. search (needs, answer-laws))
+    (λ c κs. search (needs, answer-laws))
+    (λ c. search (needs, answer-laws))
+    (λ c. search (needs, answer-laws))
+    (λ c κs. search (needs, answer-laws))
+    (λ c. search (needs, answer-laws))
+    (λ c κs. search (needs, answer-laws))
+    (λ c κs. search (needs, answer-laws))
+    (λ c. search (needs, answer-laws))
+    (λ c. search (needs, answer-laws)))

@@ -1,9 +1,9 @@
 -- `same_version_below`: a walk down the chain of the uid, from slot s on.
 use borrow.Author.Needs.{needs}
-use Rattle.acceptance.specs.Twice.{walks, versions}
-use Rattle.chains.specs.Chains.{Chased}
-use Rattle.survival.specs.Uids.{uids}
-use Rattle.acceptance.specs.Twice.{versionIn}
+use Rattle.acceptance.specs.Exits.{version-laws}
+use Rattle.chains.specs.Chased.{Chased}
+use Rattle.survival.specs.Requires.{uids}
+use Rattle.acceptance.specs.Accept.{versionIn}
 use Rattle.acceptance.proofs.versions.same_version_below.Statement.{statement}
 use Rattle.acceptance.proofs.versions.same_version_below.Tie as tie
 
@@ -19,17 +19,17 @@ same-version-below-spec =
     (tie.spec
     Inv-loop
     μ-loop
-    (λ c. search (needs, walks, versions))
-    (λ c. search (needs, walks, versions))
-    (λ c κs. search (needs, walks, versions))
-    (λ c. search (needs, walks, versions))
-    (λ c. search (needs, walks, versions))
-    (λ c κs. search (needs, walks, versions))
-    (λ c. search (needs, walks, versions))
-    (λ c. search (needs, walks, versions))
-    (λ c. search (needs, walks, versions))
-    (λ c. search (needs, walks, versions))
-    (λ c κs. search (needs, walks, versions))
-    (λ c. search (needs, walks, versions))
-    (λ c. search (needs, walks, versions))
-    (λ c. search (needs, walks, versions)))
+    (λ c. search (needs, version-laws))
+    (λ c. search (needs, version-laws))
+    (λ c κs. search (needs, version-laws))
+    (λ c. search (needs, version-laws))
+    (λ c. search (needs, version-laws))
+    (λ c κs. search (needs, version-laws))
+    (λ c. search (needs, version-laws))
+    (λ c. search (needs, version-laws))
+    (λ c. search (needs, version-laws))
+    (λ c. search (needs, version-laws))
+    (λ c κs. search (needs, version-laws))
+    (λ c. search (needs, version-laws))
+    (λ c. search (needs, version-laws))
+    (λ c. search (needs, version-laws)))

@@ -1,8 +1,6 @@
 -- `version_chained`: a search.
 use borrow.Author.Needs.{needs}
-use Rattle.survival.specs.Code.{laws}
-use Rattle.acceptance.specs.Code.{checks}
-use Rattle.acceptance.specs.Twice.{versions}
+use Rattle.acceptance.specs.Exits.{version-laws}
 use Prim.Native.Nat.{_-_}
 use Rattle.search.specs.First.{Sought}
 use Rattle.image.specs.Layout.{header}
@@ -22,11 +20,11 @@ version-chained-spec =
     (tie.spec
     Inv-loop
     μ-loop
-    (λ c κs. search (needs, laws, checks, versions))
-    (λ c. search (needs, laws, checks, versions))
-    (λ c κs. search (needs, laws, checks, versions))
-    (λ c. search (needs, laws, checks, versions))
-    (λ c. search (needs, laws, checks, versions))
-    (λ c. search (needs, laws, checks, versions))
-    (λ c. search (needs, laws, checks, versions))
-    (λ c. search (needs, laws, checks, versions)))
+    (λ c κs. search (needs, version-laws))
+    (λ c. search (needs, version-laws))
+    (λ c κs. search (needs, version-laws))
+    (λ c. search (needs, version-laws))
+    (λ c. search (needs, version-laws))
+    (λ c. search (needs, version-laws))
+    (λ c. search (needs, version-laws))
+    (λ c. search (needs, version-laws)))

@@ -1,11 +1,12 @@
-// Two survivors of one key. A survivor is held only against the slots of the chain of its key.
+// Two survivors of one name. A survivor is held only against the slots of the chain of its key.
 ghost use mathlib.Core.Path.{_≡_};
 ghost use Rattle.search.specs.Some.{some};
 ghost use Rattle.image.specs.Layout.{keyAt};
+ghost use Rattle.image.specs.Name.{jobName};
 ghost use Rattle.chains.specs.Chains.{Linked};
-ghost use Rattle.survival.specs.Code.{SlotMarked, AllMarked};
-ghost use Rattle.acceptance.specs.Accept.{survivesAs, keyBelow, keyTwice};
-ghost use Rattle.acceptance.specs.Twice.{KeysUnlinked, KeysRoom, KeyChains, KeysAt, KeyOf};
+ghost use Rattle.survival.specs.Requires.{SlotMarked, AllMarked};
+ghost use Rattle.acceptance.specs.Accept.{survivesAs, nameBelow, nameTwice};
+ghost use Rattle.acceptance.specs.Requires.{KeysUnlinked, KeysRoom, KeyChains, KeysAt, KeyOf};
 
 // The slots by their keys, each linked to the next one below of the same spot.
 fn link_keys(img: &[u32], heads: &mut [u32], below: &mut [u32], n: usize, w: usize)
@@ -20,11 +21,12 @@ fn link_keys(img: &[u32], heads: &mut [u32], below: &mut [u32], n: usize, w: usi
     }
 }
 
+// Does slot `t` survive as the job `key`?
 fn survives_as(img: &[u32], flags: &[bool; 1024], n: usize, w: usize, key: u32, t: usize) -> bool
     requires { ⌜ SlotMarked (now img) n w t (now flags) ⌝ }
-    ensures { λ r. ⌜ r ≡ survivesAs (now (img .entry)) n w key t ⌝ }
+    ensures { λ r. ⌜ r ≡ survivesAs (now (img .entry)) n w (jobName key) t ⌝ }
 {
-    if image::contents::key_at(img, n, w, t) == key {
+    if image::name::named_at(img, n, w, t, key) {
         flags[t]
     } else {
         false
@@ -41,7 +43,7 @@ fn survives_below(
     s: usize,
 ) -> bool
     requires { ⌜ KeyOf (now img) n w s key (now flags) (now below) ⌝ }
-    ensures { λ r. ⌜ r ≡ some (survivesAs (now (img .entry)) n w key) s ⌝ }
+    ensures { λ r. ⌜ r ≡ some (survivesAs (now (img .entry)) n w (jobName key)) s ⌝ }
 {
     let mut k = image::shape::wide(below[s]);
     while k != 0 {
@@ -53,9 +55,16 @@ fn survives_below(
     false
 }
 
-fn key_below(img: &[u32], flags: &[bool; 1024], below: &[u32], n: usize, w: usize, s: usize) -> bool
+fn name_below(
+    img: &[u32],
+    flags: &[bool; 1024],
+    below: &[u32],
+    n: usize,
+    w: usize,
+    s: usize,
+) -> bool
     requires { ⌜ KeysAt (now img) n w s (now flags) (now below) ⌝ }
-    ensures { λ r. ⌜ r ≡ keyBelow (now (img .entry)) n w s ⌝ }
+    ensures { λ r. ⌜ r ≡ nameBelow (now (img .entry)) n w s ⌝ }
 {
     if flags[s] {
         let key = image::contents::key_at(img, n, w, s);
@@ -65,13 +74,13 @@ fn key_below(img: &[u32], flags: &[bool; 1024], below: &[u32], n: usize, w: usiz
     }
 }
 
-fn key_chained(img: &[u32], flags: &[bool; 1024], below: &[u32], n: usize, w: usize) -> bool
+fn name_chained(img: &[u32], flags: &[bool; 1024], below: &[u32], n: usize, w: usize) -> bool
     requires { ⌜ KeyChains (now img) n w (now flags) (now below) ⌝ }
-    ensures { λ r. ⌜ r ≡ keyTwice (now (img .entry)) n w ⌝ }
+    ensures { λ r. ⌜ r ≡ nameTwice (now (img .entry)) n w ⌝ }
 {
     let mut s = 0;
     while s < n {
-        if key_below(img, flags, below, n, w, s) {
+        if name_below(img, flags, below, n, w, s) {
             return true;
         }
         s += 1;
@@ -79,7 +88,7 @@ fn key_chained(img: &[u32], flags: &[bool; 1024], below: &[u32], n: usize, w: us
     false
 }
 
-fn key_twice_in(
+fn name_twice_in(
     img: &[u32],
     flags: &[bool; 1024],
     heads: &mut [u32],
@@ -88,23 +97,23 @@ fn key_twice_in(
     w: usize,
 ) -> bool
     requires { ⌜ KeysRoom (now img) n w (now flags) (now heads) (now below) ⌝ }
-    ensures { λ r. ⌜ r ≡ keyTwice (now (img .entry)) n w ⌝ }
+    ensures { λ r. ⌜ r ≡ nameTwice (now (img .entry)) n w ⌝ }
 {
     link_keys(img, heads, below, n, w);
-    key_chained(img, flags, below, n, w)
+    name_chained(img, flags, below, n, w)
 }
 
-pub fn key_twice(img: &[u32], flags: &[bool; 1024], n: usize, w: usize) -> bool
+pub fn name_twice(img: &[u32], flags: &[bool; 1024], n: usize, w: usize) -> bool
     requires { ⌜ AllMarked (now img) n w (now flags) ⌝ }
-    ensures { λ r. ⌜ r ≡ keyTwice (now (img .entry)) n w ⌝ }
+    ensures { λ r. ⌜ r ≡ nameTwice (now (img .entry)) n w ⌝ }
 {
     if n <= 64 {
         let mut heads = [0u32; 64];
         let mut below = [0u32; 64];
-        key_twice_in(img, flags, &mut heads, &mut below, n, w)
+        name_twice_in(img, flags, &mut heads, &mut below, n, w)
     } else {
         let mut heads = [0u32; 1024];
         let mut below = [0u32; 1024];
-        key_twice_in(img, flags, &mut heads, &mut below, n, w)
+        name_twice_in(img, flags, &mut heads, &mut below, n, w)
     }
 }

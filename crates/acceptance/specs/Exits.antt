@@ -1,0 +1,312 @@
+-- The ways out of this crate's functions: a law for each, and for each call.
+use Prim.Native.Nat.{ℕ, _-_, _≤_, _<_}
+use mathlib.Core.Path.{_≡_, refl, sym, ap, _∙_}
+use mathlib.Core.Bool.{Bool, true, false, _&&_, and-true, and-false}
+use mathlib.Core.List.{List}
+use lib.ListN.{length, getD}
+use lib.Dec.{leb, eqb}
+use borrow.Author.Tests.{le-leb, lt-leb, eq-eqb, ne-eqb, eqb-true}
+use native.Mathlib.Omega.{arith}
+use Rattle.search.specs.Bools.{tests, and-left, and-right}
+use Rattle.search.specs.First.{loops as firsts}
+use Rattle.search.specs.Some.{some, every, loops as somes}
+use Rattle.reply.specs.declared.Check.{Check}
+use Rattle.reply.specs.declared.Check.the-variants.{Accepted, Refused}
+use Rattle.reply.specs.declared.Refusal.{Refusal}
+use Rattle.reply.specs.declared.Refusal.the-variants.{BadSizes, BadClock, BadSlot, Duplicate}
+use Rattle.reply.specs.Refusals.{declinedNumber}
+use Rattle.image.specs.declared.header.Header.{Header}
+use Rattle.image.specs.Layout.{mostNumber, filledKind, header, keyAt, slotsOf, widthOf, clockOf, shapeOk, clockOk}
+use Rattle.image.specs.Name.{Name, jobName, keyOf, nameAt, sameName, unnamed, same-name}
+use Rattle.image.specs.Requires.{Sized, Slot, HeaderFits, slot}
+use Rattle.image.specs.Laws.{shaped}
+use Rattle.chains.specs.Chains.{Under}
+use Rattle.chains.specs.Requires.{LinkPlace}
+use Rattle.chains.specs.Linking.{Linking, linking-start, linking-next, linking-place, linking-end}
+use Rattle.chains.specs.Chased.{Chased, chased-under, chased-slot, walks}
+use Rattle.survival.specs.Survivors.{kept, survivor, survivorCount}
+use Rattle.survival.specs.Requires.{SlotMarked, uids, header-in, slot-marked, uids-small, uids-large, marks}
+use Rattle.survival.specs.Laws.{flag-is, uid-at}
+use Rattle.acceptance.specs.Accept.{blankHeader, filledHeader, proper, allProper, nameless, someNameless, sameVersion, versionIn, versionBelow, versionTwice, survivesAs, nameBelow, nameTwice, headCheck, slotsCheck, imageCheck}
+use Rattle.acceptance.specs.Questions.{clockAnswer, survivorsAnswer, survivorsPast}
+use Rattle.acceptance.specs.Requires.{UidChains, UidsAt, VersionOf, KeysUnlinked, KeysAt, KeyOf, uid-chains, uids-at, version-of, keys-small, keys-large, keys-unlinked, key-chains, keys-at, key-of}
+use Rattle.acceptance.specs.Laws.{head-sized, image-sized}
+
+-- ---- headers that are proper
+module _ (h : Header) where
+  pub blank-kind : (h .kind ≡ 0 → ⊥) → false ≡ blankHeader h
+  unfolding blankHeader
+  blank-kind a = rw (ne-eqb (h .kind) 0 a)
+
+  pub blank-epoch : h .kind ≡ 0 → (h .epoch ≡ 0 → ⊥) → false ≡ blankHeader h
+  unfolding blankHeader
+  blank-epoch a b = rw (eq-eqb (h .kind) 0 a, ne-eqb (h .epoch) 0 b)
+
+  pub blank-rest : h .kind ≡ 0 → h .epoch ≡ 0 → eqb (h .uid) 0 ≡ blankHeader h
+  unfolding blankHeader
+  blank-rest a b = rw (eq-eqb (h .kind) 0 a, eq-eqb (h .epoch) 0 b)
+
+module _ (c : ℕ) (h : Header) {f : Bool} (fl : f ≡ filledKind (h .kind)) where
+  pub filled-no : f ≡ false → false ≡ filledHeader c h
+  unfolding filledHeader
+  filled-no t = rw (← fl, t)
+
+  pub filled-early : f ≡ true → h .epoch < 2 → false ≡ filledHeader c h
+  unfolding filledHeader
+  filled-early t a = rw (← fl, t, lt-leb 2 (h .epoch) a)
+
+  module _ (ft : f ≡ true) (a : 2 ≤ h .epoch) where
+    pub filled-late : c < h .epoch → false ≡ filledHeader c h
+    unfolding filledHeader
+    filled-late b = rw (← fl, ft, le-leb 2 (h .epoch) a, lt-leb (h .epoch) c b)
+
+    pub filled-zero : h .epoch ≤ c → h .uid < 1 → false ≡ filledHeader c h
+    unfolding filledHeader
+    filled-zero b d = rw (← fl, ft, le-leb 2 (h .epoch) a, le-leb (h .epoch) c b, lt-leb 1 (h .uid) d)
+
+    pub filled-uid : h .epoch ≤ c → 1 ≤ h .uid → leb (h .uid) mostNumber ≡ filledHeader c h
+    unfolding filledHeader
+    filled-uid b d = rw (← fl, ft, le-leb 2 (h .epoch) a, le-leb (h .epoch) c b, le-leb 1 (h .uid) d)
+
+module _ (c : ℕ) (l : List ℕ) (s : ℕ) {h : Header} {b : Bool} (at : h ≡ header l s) (bl : b ≡ blankHeader h) where
+  pub proper-blank : b ≡ true → true ≡ proper c (header l s)
+  unfolding proper
+  proper-blank t = rw (← at, ← bl, t)
+
+  pub proper-else : {r : Bool} → b ≡ false → r ≡ filledHeader c h → r ≡ proper c (header l s)
+  unfolding proper
+  proper-else t e = rw (← at, ← bl, t) e
+
+pub proper-every : (l : List ℕ) (n : ℕ) {c : ℕ} {r : Bool} → c ≡ clockOf l → r ≡ every (λ s. proper c (header l s)) n → r ≡ allProper l n
+unfolding allProper
+proper-every l n e h = rw (← e) h
+
+-- ---- survivors by name
+module _ (l : List ℕ) (n w s : ℕ) (flags : List Bool) (z : SlotMarked l n w s flags) where
+  pub nameless-yes : {k : ℕ} → getD flags s false ≡ true → k ≡ keyAt l n w s → eqb k 0 ≡ nameless l n w s
+  unfolding nameless unnamed nameAt
+  nameless-yes t e = rw (flag-is (z .flagged) (z .slot .within) t, e)
+
+  pub nameless-no : getD flags s false ≡ false → false ≡ nameless l n w s
+  unfolding nameless
+  nameless-no t = rw (flag-is (z .flagged) (z .slot .within) t)
+
+  module _ (key : ℕ) {b : Bool} (same : b ≡ sameName (nameAt l n w s) (jobName key)) where
+    pub as-yes : b ≡ true → getD flags s false ≡ survivesAs l n w (jobName key) s
+    unfolding survivesAs
+    as-yes t = rw (← same, t, flag-is (z .flagged) (z .slot .within) refl) (sym (and-true (getD flags s false)))
+
+    pub as-no : b ≡ false → false ≡ survivesAs l n w (jobName key) s
+    unfolding survivesAs
+    as-no t = rw (← same, t) (sym (and-false (survivor l n s)))
+
+  pub below-named : {key : ℕ} {r : Bool} → getD flags s false ≡ true → key ≡ keyAt l n w s → r ≡ some (survivesAs l n w (jobName key)) s → r ≡ nameBelow l n w s
+  unfolding nameBelow nameAt
+  below-named t e h = rw (flag-is (z .flagged) (z .slot .within) t, ← e) h
+
+  pub below-gone : getD flags s false ≡ false → false ≡ nameBelow l n w s
+  unfolding nameBelow
+  below-gone t = rw (flag-is (z .flagged) (z .slot .within) t)
+
+pub some-nameless : (l : List ℕ) (n w : ℕ) {r : Bool} → r ≡ some (nameless l n w) n → r ≡ someNameless l n w
+unfolding someNameless
+some-nameless l n w e = e
+
+pub name-twice : (l : List ℕ) (n w : ℕ) {r : Bool} → r ≡ some (nameBelow l n w) n → r ≡ nameTwice l n w
+unfolding nameTwice
+name-twice l n w e = e
+
+-- ---- versions
+pub version-uid : (c : ℕ) (h : Header) (l : List ℕ) (t : ℕ) {g : Header} → g ≡ header l t → (g .uid ≡ h .uid → ⊥) → false ≡ sameVersion c h (header l t)
+unfolding sameVersion
+version-uid c h l t {g} at u = rw (← at, ne-eqb (g .uid) (h .uid) u) (sym (and-false (kept c g)))
+
+module _ (c : ℕ) (h : Header) (l : List ℕ) (t : ℕ) {g : Header} {k : Bool} (at : g ≡ header l t) (kp : k ≡ kept c g) where
+  pub version-yes : k ≡ true → g .uid ≡ h .uid → eqb (g .epoch) (h .epoch) ≡ sameVersion c h (header l t)
+  unfolding sameVersion
+  version-yes e u = rw (← at, ← kp, e, eq-eqb (g .uid) (h .uid) u)
+
+  pub version-no : k ≡ false → false ≡ sameVersion c h (header l t)
+  unfolding sameVersion
+  version-no e = rw (← at, ← kp, e)
+
+pub version-in : (c : ℕ) (h : Header) (l : List ℕ) (t : ℕ) {r : Bool} → r ≡ sameVersion c h (header l t) → r ≡ versionIn c h l t
+unfolding versionIn
+version-in c h l t e = e
+
+module _ (c : ℕ) (l : List ℕ) (s : ℕ) {h : Header} {k : Bool} (at : h ≡ header l s) (kp : k ≡ kept c h) where
+  pub below-yes : {r : Bool} → k ≡ true → r ≡ some (versionIn c h l) s → r ≡ versionBelow c (header l) s
+  unfolding versionBelow versionIn
+  below-yes e p = rw (← at, ← kp, e) p
+
+  pub below-no : k ≡ false → false ≡ versionBelow c (header l) s
+  unfolding versionBelow
+  below-no e = rw (← at, ← kp, e)
+
+pub version-twice : (l : List ℕ) (n : ℕ) {c : ℕ} {r : Bool} → c ≡ clockOf l → r ≡ some (versionBelow c (header l)) n → r ≡ versionTwice l n
+unfolding versionTwice
+version-twice l n e h = rw (← e) h
+
+-- ---- the checks
+module _ (l : List ℕ) {s : Bool} (sh : s ≡ shapeOk l) where
+  pub head-shape : s ≡ false → Refused BadSizes ≡ headCheck l
+  unfolding headCheck
+  head-shape e = rw (← sh, e)
+
+  module _ {c : ℕ} {k : Bool} (st : s ≡ true) (at : c ≡ clockOf l) (ck : k ≡ clockOk c) where
+    pub head-clock : k ≡ false → Refused BadClock ≡ headCheck l
+    unfolding headCheck
+    head-clock e = rw (← sh, st, ← at, ← ck, e)
+
+    pub head-fine : k ≡ true → Accepted ≡ headCheck l
+    unfolding headCheck
+    head-fine e = rw (← sh, st, ← at, ← ck, e)
+
+pub shape-room : (l : List ℕ) {s : Bool} → s ≡ shapeOk l → s ≡ true → 3 ≤ length l
+shape-room l e t = let z = shaped l (sym e ∙ t) in omega arith
+
+module _ (l : List ℕ) (n w : ℕ) {p : Bool} (pr : p ≡ allProper l n) where
+  pub slots-improper : p ≡ false → Refused BadSlot ≡ slotsCheck l n w
+  unfolding slotsCheck
+  slots-improper e = rw (← pr, e)
+
+  module _ {k : Bool} (pt : p ≡ true) (nm : k ≡ someNameless l n w) where
+    pub slots-nameless : k ≡ true → Refused BadSlot ≡ slotsCheck l n w
+    unfolding slotsCheck
+    slots-nameless e = rw (← pr, pt, ← nm, e)
+
+    module _ {v : Bool} (kf : k ≡ false) (vt : v ≡ versionTwice l n) where
+      pub slots-version : v ≡ true → Refused Duplicate ≡ slotsCheck l n w
+      unfolding slotsCheck
+      slots-version e = rw (← pr, pt, ← nm, kf, ← vt, e)
+
+      module _ {y : Bool} (vf : v ≡ false) (yt : y ≡ nameTwice l n w) where
+        pub slots-named : y ≡ true → Refused Duplicate ≡ slotsCheck l n w
+        unfolding slotsCheck
+        slots-named e = rw (← pr, pt, ← nm, kf, ← vt, vf, ← yt, e)
+
+        pub slots-fine : y ≡ false → Accepted ≡ slotsCheck l n w
+        unfolding slotsCheck
+        slots-fine e = rw (← pr, pt, ← nm, kf, ← vt, vf, ← yt, e)
+
+module _ (l : List ℕ) {k : Check} (c : k ≡ headCheck l) where
+  pub check-declines : {r : Refusal} → k ≡ Refused r → Refused r ≡ imageCheck l
+  unfolding imageCheck
+  check-declines a = rw (← c, a)
+
+  pub check-goes : (n w : ℕ) {r : Check} → k ≡ Accepted → n ≡ slotsOf l → w ≡ widthOf l → r ≡ slotsCheck l n w → r ≡ imageCheck l
+  unfolding imageCheck
+  check-goes n w a p q h = rw (← c, a, ← p, ← q) h
+
+  pub check-long : (j : ℕ) → k ≡ Accepted → j < 3 → j < length l
+  check-long j a h = let z = head-sized l (sym c ∙ a) in omega arith
+
+  pub check-sized : {n w : ℕ} → k ≡ Accepted → n ≡ slotsOf l → w ≡ widthOf l → Sized l n w
+  check-sized a p q = rw (p, q) (head-sized l (sym c ∙ a))
+
+-- ---- the questions
+module _ (l : List ℕ) {k : Check} (c : k ≡ imageCheck l) where
+  pub clock-declines : {r : Refusal} {v : ℕ} → k ≡ Refused r → v ≡ declinedNumber r → v ≡ clockAnswer l
+  unfolding clockAnswer
+  clock-declines a e = rw (← c, a) e
+
+  pub clock-goes : {d v : ℕ} → k ≡ Accepted → d ≡ clockOf l → v ≡ d → v ≡ clockAnswer l
+  unfolding clockAnswer
+  clock-goes a e q = rw (← c, a) (q ∙ e)
+
+  pub image-head : k ≡ Accepted → 3 ≤ length l
+  image-head a = let z = image-sized l (sym c ∙ a) in omega arith
+
+module _ (l : List ℕ) {k : Check} (c : k ≡ headCheck l) where
+  pub survivors-declines : {r : Refusal} {v : ℕ} → k ≡ Refused r → v ≡ declinedNumber r → v ≡ survivorsAnswer l
+  unfolding survivorsAnswer imageCheck
+  survivors-declines a e = rw (← c, a) e
+
+  pub survivors-goes : (n w : ℕ) {v : ℕ} → k ≡ Accepted → n ≡ slotsOf l → w ≡ widthOf l → v ≡ survivorsPast l n w → v ≡ survivorsAnswer l
+  unfolding survivorsAnswer imageCheck survivorsPast
+  survivors-goes n w a p q e = rw (← c, a, ← p, ← q) e
+
+module _ (l : List ℕ) (n w : ℕ) {k : Check} (c : k ≡ slotsCheck l n w) where
+  pub past-declines : {r : Refusal} {v : ℕ} → k ≡ Refused r → v ≡ declinedNumber r → v ≡ survivorsPast l n w
+  unfolding survivorsPast
+  past-declines a e = rw (← c, a) e
+
+  pub past-goes : {v : ℕ} → k ≡ Accepted → v ≡ survivorCount l n → v ≡ survivorsPast l n w
+  unfolding survivorsPast
+  past-goes a e = rw (← c, a) e
+
+-- ---- the walk for a slot of one version
+-- it has the uid of the version
+version-uids : (c : ℕ) (h : Header) (l : List ℕ) (t : ℕ) → versionIn c h l t ≡ true → uids l t ≡ h .uid
+unfolding versionIn sameVersion uids
+version-uids c h l t e =
+    let g = header l t in
+    eqb-true (g .uid) (h .uid) (and-left (eqb (g .uid) (h .uid)) (eqb (g .epoch) (h .epoch)) (and-right (kept c g) (eqb (g .uid) (h .uid) && eqb (g .epoch) (h .epoch)) e))
+
+pub chains-clock : {l : List ℕ} {n : ℕ} {below : List ℕ} → UidChains l n below → 3 ≤ length l
+chains-clock z = omega (arith, z .headers .long)
+
+pub version-at : {l : List ℕ} {n s : ℕ} {below : List ℕ} → UidsAt l n s below → HeaderFits l n s
+version-at z = header-in (z .chains .headers) (z .within)
+
+module _ {l : List ℕ} {n s : ℕ} {h : Header} {below : List ℕ} (z : VersionOf l n s h below) where
+  pub version-word : s < length below
+  version-word = omega (arith, z .at .within, z .at .chains .under .slots)
+
+  pub version-start : (c : ℕ) {k : ℕ} → k ≡ getD below s 0 → Chased (versionIn c h l) (uids l) n (h .uid) s k
+  version-start c e =
+      chased-under (versionIn c h l) (z .at .chains .under) (z .at .within) (version-uids c h l) (uid-at l s (z .mine)) e
+
+  pub version-under : Under (uids l) n n below
+  version-under = z .at .chains .under
+
+  pub version-header : {p : ℕ → Bool} {x k : ℕ} → Chased p (uids l) n x s k → (k ≡ 0 → ⊥) → HeaderFits l n (k - 1)
+  version-header y q = header-in (z .at .chains .headers) (omega (arith, chased-slot y q, z .at .within))
+
+-- ---- the loop that links by keys
+pub keys-start : {l : List ℕ} {n w : ℕ} {heads below : List ℕ} → KeysUnlinked l n w heads below → Linking (keyAt l n w) n 0 heads below heads below
+keys-start {l} {n} {w} z = linking-start (keyAt l n w) (z .room)
+
+module _ {l : List ℕ} {n w i : ℕ} {heads₀ below₀ heads below : List ℕ} (y : KeysUnlinked l n w heads₀ below₀) (z : Linking (keyAt l n w) n i heads₀ below₀ heads below) (h : i < n) where
+  pub keys-slot : Slot l n w i
+  keys-slot = slot (y .sized) h
+
+  pub keys-place : LinkPlace n i heads below
+  keys-place = linking-place z (y .sized .sizes .slots-hi) h
+
+-- ---- the walk for a survivor of one name
+-- it has the key of the name
+as-key : (l : List ℕ) (n w : ℕ) (name : Name) (t : ℕ) → survivesAs l n w name t ≡ true → keyAt l n w t ≡ keyOf name
+unfolding survivesAs nameAt
+as-key l n w name t e = ap keyOf (same-name (nameAt l n w t) name (and-right (survivor l n t) (sameName (nameAt l n w t) name) e))
+
+pub named-marked : {l : List ℕ} {n w s : ℕ} {flags : List Bool} {below : List ℕ} → KeysAt l n w s flags below → SlotMarked l n w s flags
+named-marked z = slot-marked (z .chains .marked) (z .within)
+
+pub named-slot : {l : List ℕ} {n w s : ℕ} {flags : List Bool} {below : List ℕ} → KeysAt l n w s flags below → Slot l n w s
+named-slot z = slot (z .chains .marked .sized) (z .within)
+
+module _ {l : List ℕ} {n w s key : ℕ} {flags : List Bool} {below : List ℕ} (z : KeyOf l n w s key flags below) where
+  pub named-word : s < length below
+  named-word = omega (arith, z .at .within, z .at .chains .under .slots)
+
+  pub named-start : {k : ℕ} → k ≡ getD below s 0 → Chased (survivesAs l n w (jobName key)) (keyAt l n w) n key s k
+  named-start e = chased-under (survivesAs l n w (jobName key)) (z .at .chains .under) (z .at .within) (as-key l n w (jobName key)) (z .mine) e
+
+  pub named-under : Under (keyAt l n w) n n below
+  named-under = z .at .chains .under
+
+  pub named-below : {p : ℕ → Bool} {x k : ℕ} → Chased p (keyAt l n w) n x s k → (k ≡ 0 → ⊥) → SlotMarked l n w (k - 1) flags
+  named-below y q = slot-marked (z .at .chains .marked) (omega (arith, chased-slot y q, z .at .within))
+
+-- headers, and the checks of an image
+pub ruleset laws = (tests, firsts, somes, marks, blank-kind, blank-epoch, blank-rest, filled-no, filled-early, filled-late, filled-zero, filled-uid, proper-blank, proper-else, proper-every, nameless-yes, nameless-no, some-nameless, head-shape, head-clock, head-fine, shape-room, slots-improper, slots-nameless, slots-version, slots-named, slots-fine)
+
+-- the whole check, and the questions
+pub ruleset answer-laws = (marks, check-declines, check-goes, check-long, check-sized, clock-declines, clock-goes, image-head, survivors-declines, survivors-goes, past-declines, past-goes)
+
+-- two slots of one version
+pub ruleset version-laws = (tests, firsts, somes, walks, uids-small, uids-large, uid-chains, uids-at, version-of, version-uid, version-yes, version-no, version-in, below-yes, below-no, version-twice, chains-clock, version-at, version-word, version-start, version-under, version-header)
+
+-- two survivors of one name
+pub ruleset name-laws = (firsts, somes, walks, linking-next, linking-end, keys-small, keys-large, keys-unlinked, key-chains, keys-at, key-of, keys-start, keys-slot, keys-place, as-yes, as-no, below-named, below-gone, name-twice, named-marked, named-slot, named-word, named-start, named-under, named-below)

@@ -1,0 +1,101 @@
+-- What functions inside require: the slots chained by their uids and by their keys, and a buffer for an image's bytes.
+use Prim.Native.Nat.{ℕ, _*_, _/_, _%_, _≤_, _<_}
+use mathlib.Core.Path.{_≡_, sym, _∙_}
+use mathlib.Core.Bool.{Bool, true}
+use mathlib.Core.List.{List}
+use lib.ListN.{length, replicate}
+use lib.Dec.{leb, eqb}
+use borrow.Author.Tests.{leb-true, eqb-true}
+use native.Mathlib.Omega.{arith}
+use native.Mathlib.Nat.{div-add-mod'}
+use Rattle.search.specs.Bools.{and-left, and-right}
+use Rattle.image.specs.declared.header.Header.{Header}
+use Rattle.image.specs.Layout.{header, keyAt}
+use Rattle.image.specs.Requires.{Sized}
+use Rattle.image.specs.Bytes.{Decodes}
+use Rattle.chains.specs.Chains.{Linked, Under}
+use Rattle.chains.specs.Requires.{Room, room-small, room-large}
+use Rattle.survival.specs.Requires.{Headers, AllMarked, uids, UidsLinked}
+use Rattle.acceptance.specs.Questions.{bytesOk}
+
+-- ---- chains of uids: a slot of them, and its header
+pub record UidChains (l : List ℕ) (n : ℕ) (below : List ℕ) : Type 0 where
+  pub headers : Headers l n
+  pub under : Under (uids l) n n below
+
+pub record UidsAt (l : List ℕ) (n s : ℕ) (below : List ℕ) : Type 0 where
+  pub chains : UidChains l n below
+  pub within : s < n
+
+pub record VersionOf (l : List ℕ) (n s : ℕ) (h : Header) (below : List ℕ) : Type 0 where
+  pub at : UidsAt l n s below
+  pub mine : h ≡ header l s
+
+-- ---- chains of keys: words for them, without and with the flags; a slot of them, and its key
+pub record KeysUnlinked (l : List ℕ) (n w : ℕ) (heads below : List ℕ) : Type 0 where
+  pub sized : Sized l n w
+  pub room : Room n heads below
+
+pub record KeysRoom (l : List ℕ) (n w : ℕ) (flags : List Bool) (heads below : List ℕ) : Type 0 where
+  pub marked : AllMarked l n w flags
+  pub room : Room n heads below
+
+pub record KeyChains (l : List ℕ) (n w : ℕ) (flags : List Bool) (below : List ℕ) : Type 0 where
+  pub marked : AllMarked l n w flags
+  pub under : Under (keyAt l n w) n n below
+
+pub record KeysAt (l : List ℕ) (n w s : ℕ) (flags : List Bool) (below : List ℕ) : Type 0 where
+  pub chains : KeyChains l n w flags below
+  pub within : s < n
+
+pub record KeyOf (l : List ℕ) (n w s key : ℕ) (flags : List Bool) (below : List ℕ) : Type 0 where
+  pub at : KeysAt l n w s flags below
+  pub mine : key ≡ keyAt l n w s
+
+-- ---- bytes that make whole words, and a buffer for the largest image
+pub record Buffered (bytes words : List ℕ) : Type 0 where
+  pub whole : length bytes ≡ 4 * (length bytes / 4)
+  pub few : length bytes ≤ 49164
+  pub long : length words ≡ 12291
+
+-- ---- how they are made
+pub uid-chains : {l : List ℕ} {n : ℕ} {heads below : List ℕ} → UidsLinked l n heads below → UidChains l n below
+uid-chains z = record { headers = z .headers; under = z .linked .under }
+
+pub uids-at : {l : List ℕ} {n s : ℕ} {below : List ℕ} → UidChains l n below → s < n → UidsAt l n s below
+uids-at z h = record { chains = z; within = h }
+
+pub version-of : {l : List ℕ} {n s : ℕ} {h : Header} {below : List ℕ} → UidsAt l n s below → h ≡ header l s → VersionOf l n s h below
+version-of z e = record { at = z; mine = e }
+
+pub keys-small : {l : List ℕ} {n w : ℕ} {flags : List Bool} → AllMarked l n w flags → n ≤ 64 → KeysRoom l n w flags (replicate 64 0) (replicate 64 0)
+keys-small z h = record { marked = z; room = room-small h }
+
+pub keys-large : {l : List ℕ} {n w : ℕ} {flags : List Bool} → AllMarked l n w flags → KeysRoom l n w flags (replicate 1024 0) (replicate 1024 0)
+keys-large z = record { marked = z; room = room-large (z .sized .sizes .slots-hi) }
+
+pub keys-unlinked : {l : List ℕ} {n w : ℕ} {flags : List Bool} {heads below : List ℕ} → KeysRoom l n w flags heads below → KeysUnlinked l n w heads below
+keys-unlinked z = record { sized = z .marked .sized; room = z .room }
+
+pub key-chains : {l : List ℕ} {n w : ℕ} {flags : List Bool} {heads₀ below₀ heads below : List ℕ} → KeysRoom l n w flags heads₀ below₀
+    → Linked (keyAt l n w) n n heads below → KeyChains l n w flags below
+key-chains z y = record { marked = z .marked; under = y .under }
+
+pub keys-at : {l : List ℕ} {n w s : ℕ} {flags : List Bool} {below : List ℕ} → KeyChains l n w flags below → s < n → KeysAt l n w s flags below
+keys-at z h = record { chains = z; within = h }
+
+pub key-of : {l : List ℕ} {n w s key : ℕ} {flags : List Bool} {below : List ℕ} → KeysAt l n w s flags below → key ≡ keyAt l n w s → KeyOf l n w s key flags below
+key-of z e = record { at = z; mine = e }
+
+pub buffered : {bytes words : List ℕ} {b : Bool} → b ≡ bytesOk (length bytes) → b ≡ true → length words ≡ 12291 → Buffered bytes words
+unfolding bytesOk
+buffered {bytes} e t long =
+    let z : length bytes % 4 ≡ 0 = eqb-true _ _ (and-left (eqb (length bytes % 4) 0) (leb (length bytes) 49164) (sym e ∙ t)) in
+    record {
+      whole = omega (arith, div-add-mod' (length bytes) 4);
+      few = leb-true _ _ (and-right (eqb (length bytes % 4) 0) (leb (length bytes) 49164) (sym e ∙ t));
+      long = long;
+    }
+
+pub decodes : {bytes words : List ℕ} → Buffered bytes words → Decodes bytes words (length bytes / 4)
+decodes z = record { whole = z .whole; room = omega (arith, z .whole, z .few, z .long) }

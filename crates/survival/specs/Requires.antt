@@ -1,0 +1,82 @@
+-- What functions inside require: an image's headers, the survivors' flags beside it, and its slots chained by their uids.
+use Prim.Native.Nat.{ℕ, _+_, _*_, _≤_, _<_}
+use mathlib.Core.Path.{_≡_}
+use mathlib.Core.Bool.{Bool, false}
+use mathlib.Core.List.{List}
+use lib.ListN.{length, getD, replicate}
+use native.Mathlib.Omega.{arith}
+use Rattle.image.specs.Layout.{mostSlots, headerWords, header}
+use Rattle.image.specs.Requires.{Sized, Slot, HeaderFits, slot}
+use Rattle.chains.specs.Chains.{Linked}
+use Rattle.chains.specs.Requires.{Room, room-small, room-large}
+use Rattle.survival.specs.Survivors.{survivor}
+
+-- an image's headers, and one of them
+pub record Headers (l : List ℕ) (n : ℕ) : Type 0 where
+  pub slots-hi : n ≤ mostSlots
+  pub long : 3 + headerWords * n ≤ length l
+
+pub record HeaderOf (l : List ℕ) (n s : ℕ) : Type 0 where
+  pub headers : Headers l n
+  pub within : s < n
+
+-- ---- flags: slot s's flag says whether it passes
+pub record Flagged (flags : List Bool) (p : ℕ → Bool) (n : ℕ) : Type 0 where
+  pub long : length flags ≡ 1024
+  pub same : (s : ℕ) → s < n → getD flags s false ≡ p s
+
+-- an image beside its survivors' flags: its headers, the whole of it, a slot of it
+pub record Marked (l : List ℕ) (n : ℕ) (flags : List Bool) : Type 0 where
+  pub headers : Headers l n
+  pub flagged : Flagged flags (survivor l n) n
+
+pub record AllMarked (l : List ℕ) (n w : ℕ) (flags : List Bool) : Type 0 where
+  pub sized : Sized l n w
+  pub flagged : Flagged flags (survivor l n) n
+
+pub record SlotMarked (l : List ℕ) (n w s : ℕ) (flags : List Bool) : Type 0 where
+  pub slot : Slot l n w s
+  pub flagged : Flagged flags (survivor l n) n
+
+-- ---- chains of uids: words for them, the slots linked, and one of these
+unfoldable pub uids : List ℕ → ℕ → ℕ
+uids l s = header l s .uid
+
+pub record UidsUnlinked (l : List ℕ) (n : ℕ) (heads below : List ℕ) : Type 0 where
+  pub headers : Headers l n
+  pub room : Room n heads below
+
+pub record UidsLinked (l : List ℕ) (n : ℕ) (heads below : List ℕ) : Type 0 where
+  pub headers : Headers l n
+  pub linked : Linked (uids l) n n heads below
+
+pub record UidsLinkedAt (l : List ℕ) (n s : ℕ) (heads below : List ℕ) : Type 0 where
+  pub chains : UidsLinked l n heads below
+  pub within : s < n
+
+-- ---- how they are made
+pub headers-of : {l : List ℕ} {n w : ℕ} → Sized l n w → Headers l n
+headers-of z = record { slots-hi = z .sizes .slots-hi; long = omega arith }
+
+pub header-in : {l : List ℕ} {n s : ℕ} → Headers l n → s < n → HeaderFits l n s
+header-in z h = record { within = h; slots-hi = z .slots-hi; long = z .long }
+
+pub header-of : {l : List ℕ} {n s : ℕ} → Headers l n → s < n → HeaderOf l n s
+header-of z h = record { headers = z; within = h }
+
+pub sized-marked : {l : List ℕ} {n w : ℕ} {flags : List Bool} → Sized l n w → Marked l n flags → AllMarked l n w flags
+sized-marked z m = record { sized = z; flagged = m .flagged }
+
+pub all-headers : {l : List ℕ} {n w : ℕ} {flags : List Bool} → AllMarked l n w flags → Headers l n
+all-headers z = headers-of (z .sized)
+
+pub slot-marked : {l : List ℕ} {n w s : ℕ} {flags : List Bool} → AllMarked l n w flags → s < n → SlotMarked l n w s flags
+slot-marked z h = record { slot = slot (z .sized) h; flagged = z .flagged }
+
+pub uids-small : {l : List ℕ} {n : ℕ} → Headers l n → n ≤ 64 → UidsUnlinked l n (replicate 64 0) (replicate 64 0)
+uids-small z h = record { headers = z; room = room-small h }
+
+pub uids-large : {l : List ℕ} {n : ℕ} → Headers l n → UidsUnlinked l n (replicate 1024 0) (replicate 1024 0)
+uids-large z = record { headers = z; room = room-large (z .slots-hi) }
+
+pub ruleset marks = (headers-of, header-in, header-of, sized-marked, all-headers, slot-marked)
