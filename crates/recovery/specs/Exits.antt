@@ -1,4 +1,4 @@
--- What the proofs of recover's step cite.
+-- The ways out of recover's functions.
 use Prim.Native.Nat.{ℕ, _+_, _-_, _≤_, _<_, _^_}
 use mathlib.Core.Path.{_≡_, refl, sym, ap, _∙_}
 use mathlib.Core.Bool.{Bool, true, false, not, _&&_}
@@ -10,42 +10,33 @@ use mir.Val.{Fits}
 use mir.Syntax.{w32}
 use borrow.Author.Tests.{lt-ltb, le-ltb, eq-eqb, ne-eqb, eqb-true, leb-true, not-false}
 use native.Mathlib.Omega.{arith}
-use Rattle.search.specs.Bools.{cases, and-left, and-right}
-use Rattle.search.specs.First.{firstOf, First, found-first}
+use Rattle.search.specs.Bools.{cases, and-left, and-right, tests}
+use Rattle.search.specs.First.{firstOf, First, found-first, loops as firsts}
 use Rattle.search.specs.Largest.{largest, raised, largest-top, loops as climbs}
 use Rattle.search.specs.declared.Found.{Found}
 use Rattle.search.specs.declared.Found.the-variants.{At, Nothing}
 use Rattle.reply.specs.declared.Check.{Check}
 use Rattle.reply.specs.declared.Check.the-variants.{Accepted, Refused}
 use Rattle.reply.specs.declared.Refusal.{Refusal}
-use Rattle.reply.specs.declared.Refusal.the-variants.{Sizes, Clock}
+use Rattle.reply.specs.declared.Refusal.the-variants.{BadSizes, BadClock}
 use Rattle.reply.specs.Refusals.{refuse, not-refused}
 use Rattle.image.specs.declared.header.Header.{Header}
-use Rattle.image.specs.Layout.{filledKind, header, slotsOf, widthOf, clockOf, shapeOk, clockOk, stored, setHeader, freeHeader, HeaderFits, Sized}
-use Rattle.image.specs.Laws.{stored-whole}
-use Rattle.image.specs.Code.{shaped}
-use Rattle.transient.specs.Store.{Store, store}
-use Rattle.transient.specs.Layout.{threadsOf, threadsOk, blank}
+use Rattle.image.specs.Layout.{mostSlots, mostNumber, filledKind, header, slotsOf, widthOf, clockOf, shapeOk, clockOk, freeHeader}
+use Rattle.image.specs.Line.{headerLine, stored, storeLine}
+use Rattle.image.specs.Requires.{HeaderFits}
+use Rattle.image.specs.Laws.{shaped, stored-whole}
+use Rattle.transient.specs.Layout.{headWords, threadsOf, threadsOk, blank}
+use Rattle.transient.specs.Store.{store, Outcome, outcome}
+use Rattle.transient.specs.Requires.{Blanking}
 use Rattle.survival.specs.Survivors.{survivor, keptAnti}
+use Rattle.survival.specs.Requires.{Headers, Marked, AllMarked, headers-of, header-in, marks}
+use Rattle.survival.specs.Laws.{flag-is}
 use Rattle.acceptance.specs.Accept.{headCheck, slotsCheck, proper}
 use Rattle.acceptance.specs.Sound.{Sound, sound, uid-top}
-use Rattle.recovery.specs.Recover.{antiAt, stale, orElse, nextFreed, uidOf, nextUid, lengthsFit, recoverEntryCheck, recoverCheck, Recovered, recovered, finished, freeing, judged, recover}
-use Rattle.survival.specs.Code.{Headers, HeaderOf, Marked, AllMarked, flag-is, headers-of, header-in}
 use Rattle.recovery.specs.declared.Recovery.{Recovery}
 use Rattle.recovery.specs.declared.Recovery.the-variants.{WentOn, Done, Declined}
-
-pub record FlagAt (l : List ℕ) (n s : ℕ) (flags : List Bool) : Type 0 where
-  pub marked : Marked l n flags
-  pub within : s < n
-
-pub flag-at : {l : List ℕ} {n s : ℕ} {flags : List Bool} → Marked l n flags → s < n → FlagAt l n s flags
-flag-at z h = record { marked = z; within = h }
-
-pub flag-header : {l : List ℕ} {n s : ℕ} {flags : List Bool} → FlagAt l n s flags → HeaderFits l n s
-flag-header z = header-in (z .marked .headers) (z .within)
-
-pub flag-of : {l : List ℕ} {n s : ℕ} {flags : List Bool} → FlagAt l n s flags → HeaderOf l n s
-flag-of z = record { headers = z .marked .headers; within = z .within }
+use Rattle.recovery.specs.Recover.{antiAt, stale, nextFreed, uidOf, nextUid, lengthsFit, recoverEntryCheck, recoverCheck, finished, freeing, recover}
+use Rattle.recovery.specs.Requires.{FlagAt, flag-at, flag-header, flag-of, Uids, Finishing, Judged, recoverSized}
 
 -- ---- what is freed next
 pub anti-is : (l : List ℕ) (s : ℕ) {c : ℕ} {r : Bool} → c ≡ clockOf l → r ≡ keptAnti c (header l s) → r ≡ antiAt l s
@@ -105,34 +96,27 @@ module _ (l : List ℕ) (n s b : ℕ) (flags : List Bool) (z : FlagAt l n s flag
         let e : uidOf l s ≡ h .uid = ap (λ (x : Header). x .uid) (sym at) in
         rw (flag-is (z .marked .flagged) (z .within) t, e, le-ltb b (h .uid) u)
 
-pub record Uids (l : List ℕ) (n : ℕ) (flags : List Bool) : Type 0 where
-  pub marked : Marked l n flags
-  pub uids : (s : ℕ) → s < n → uidOf l s ≤ 4000000000
-
 pub uid-fits : (l : List ℕ) (n : ℕ) (flags : List Bool) {b : ℕ} → Uids l n flags → b ≡ largest (survivor l n) (uidOf l) n → Fits w32 (b + 1)
-uid-fits l n flags z e = omega (arith, largest-top (survivor l n) (uidOf l) 4000000000 n (z .uids), e)
+uid-fits l n flags z e = omega (arith, largest-top (survivor l n) (uidOf l) mostNumber n (z .uids), e)
 
 pub uid-is : (l : List ℕ) (n : ℕ) {b : ℕ} → b ≡ largest (survivor l n) (uidOf l) n → b + 1 ≡ nextUid l n
 unfolding nextUid
 uid-is l n e = rw e
 
 -- ---- the last call
-pub record Finishing (wk l t : List ℕ) (flags : List Bool) (n : ℕ) : Type 0 where
-  pub uids : Uids l n flags
-  pub some : 1 ≤ n
-  pub same : length wk ≡ length l
-  pub notes : 2 ≤ length t
-
 pub finish-marked : {wk l t : List ℕ} {flags : List Bool} {n : ℕ} → Finishing wk l t flags n → Marked l n flags
 finish-marked z = z .uids .marked
 
 pub finish-header : (wk l t : List ℕ) (flags : List Bool) {n s : ℕ} {f : Found} → Finishing wk l t flags n → f ≡ nextFreed l n → f ≡ At s → HeaderFits l n s
 finish-header wk l t flags {n} {s} z e a = header-in (z .uids .marked .headers) (freed-below l n s (sym e ∙ a))
 
-pub finish-slots : {wk l t : List ℕ} {flags : List Bool} {n : ℕ} → Finishing wk l t flags n → n - 1 < 2 ^ 32
+pub finish-slots : {wk l t : List ℕ} {flags : List Bool} {n : ℕ} → Finishing wk l t flags n → n < 2 ^ 32
 finish-slots z = let h = z .uids .marked .headers .slots-hi in omega arith
 
-pub finish-done : (wk l t : List ℕ) (n : ℕ) {u m : ℕ} {wk′ t′ : List ℕ} → length wk ≡ length l → u ≡ nextUid l n → wk′ ≡ stored wk 0 l (length l) → m ≡ n - 1
+pub finish-blank : {wk l t : List ℕ} {flags : List Bool} {n m : ℕ} → Finishing wk l t flags n → m ≡ n → Blanking t m
+finish-blank z e = record { some = omega (arith, z .some); room = z .notes }
+
+pub finish-done : (wk l t : List ℕ) (n : ℕ) {u m : ℕ} {wk′ t′ : List ℕ} → length wk ≡ length l → u ≡ nextUid l n → wk′ ≡ stored wk 0 l (length l) → m ≡ n
     → t′ ≡ blank (length t) m u → store wk′ l t′ ≡ finished l (length t) n
 unfolding finished
 finish-done wk l t n long e w m b =
@@ -140,28 +124,28 @@ finish-done wk l t n long e w m b =
     rw (w, copy, b, e, m)
 
 module _ (wk l t : List ℕ) (n : ℕ) {f : Found} (fr : f ≡ nextFreed l n) where
-  pub free-on : {s : ℕ} {h : Header} {l′ : List ℕ} → f ≡ At s → h ≡ freeHeader → l′ ≡ setHeader l s h → recovered WentOn wk l′ t ≡ freeing (nextFreed l n) (store wk l t) n
+  pub free-on : {s : ℕ} {h : Header} {l′ : List ℕ} → f ≡ At s → h ≡ freeHeader → l′ ≡ storeLine l (headerLine s h) → outcome WentOn wk l′ t ≡ freeing (nextFreed l n) (store wk l t) n
   free-on e q p = rw (← fr, e, p, q)
 
-  pub free-done : {wk′ t′ : List ℕ} → f ≡ Nothing → store wk′ l t′ ≡ finished l (length t) n → recovered Done wk′ l t′ ≡ freeing (nextFreed l n) (store wk l t) n
+  pub free-done : {wk′ t′ : List ℕ} → f ≡ Nothing → store wk′ l t′ ≡ finished l (length t) n → outcome Done wk′ l t′ ≡ freeing (nextFreed l n) (store wk l t) n
   free-done {wk′} {t′} e p = rw (← fr, e) (ap (λ st. record { reply = Done; store = st }) p)
 
 -- ---- refusals 1 and 2
-sizes-both : (b : Bool) → Refused Sizes ≡ refuse b Sizes (Refused Sizes)
+sizes-both : (b : Bool) → Refused BadSizes ≡ refuse b BadSizes (Refused BadSizes)
 sizes-both true = refl
 sizes-both false = refl
 
 module _ (wl : ℕ) (l : List ℕ) (tl : ℕ) {s : Bool} (sh : s ≡ shapeOk l) where
-  pub entry-shape : s ≡ false → Refused Sizes ≡ recoverEntryCheck wl l tl
+  pub entry-shape : s ≡ false → Refused BadSizes ≡ recoverEntryCheck wl l tl
   unfolding recoverEntryCheck headCheck
   entry-shape e = rw (← sh, e) (sizes-both (not (lengthsFit wl l tl)))
 
-  pub entry-working : s ≡ true → (wl ≡ length l → ⊥) → Refused Sizes ≡ recoverEntryCheck wl l tl
+  pub entry-working : s ≡ true → (wl ≡ length l → ⊥) → Refused BadSizes ≡ recoverEntryCheck wl l tl
   unfolding recoverEntryCheck lengthsFit
   entry-working t d = rw (ne-eqb wl (length l) d)
 
   module _ {n : ℕ} {k : Bool} (long : wl ≡ length l) (at : n ≡ slotsOf l) (th : k ≡ threadsOk tl n) where
-    pub entry-threads : k ≡ false → Refused Sizes ≡ recoverEntryCheck wl l tl
+    pub entry-threads : k ≡ false → Refused BadSizes ≡ recoverEntryCheck wl l tl
     unfolding recoverEntryCheck lengthsFit
     entry-threads e = rw (eq-eqb wl (length l) long, ← at, ← th, e)
 
@@ -172,24 +156,19 @@ module _ (wl : ℕ) (l : List ℕ) (tl : ℕ) {s : Bool} (sh : s ≡ shapeOk l) 
 pub entry-first : (l : List ℕ) {s : Bool} → s ≡ shapeOk l → s ≡ true → 0 < length l
 entry-first l e t = let z = shaped l (sym e ∙ t) in omega arith
 
-pub entry-slots : (l : List ℕ) {s : Bool} {n : ℕ} → s ≡ shapeOk l → s ≡ true → n ≡ slotsOf l → n ≤ 1024
+pub entry-slots : (l : List ℕ) {s : Bool} {n : ℕ} → s ≡ shapeOk l → s ≡ true → n ≡ slotsOf l → n ≤ mostSlots
 entry-slots l e t q = let z = shaped l (sym e ∙ t) in omega arith
 
 -- ---- past refusals 1 and 2
-pub record Entered (wk l t : List ℕ) (n w : ℕ) : Type 0 where
-  pub sized : Sized l n w
-  pub same : length wk ≡ length l
-  pub notes : 2 ≤ length t
-
-entry-passed : (wk l t : List ℕ) {k : Check} → k ≡ recoverEntryCheck (length wk) l (length t) → k ≡ Accepted → Entered wk l t (slotsOf l) (widthOf l)
+entry-passed : (wk l t : List ℕ) {k : Check} → k ≡ recoverEntryCheck (length wk) l (length t) → k ≡ Accepted → Judged wk l t (slotsOf l) (widthOf l)
 unfolding recoverEntryCheck headCheck lengthsFit threadsOk
 entry-passed wk l t e a =
     let same = eqb (length wk) (length l) in
     let some = leb 1 (threadsOf (length t) (slotsOf l)) in
     let few = leb (threadsOf (length t) (slotsOf l)) 16 in
-    let one = not-refused (not (same && (some && few))) Sizes (headCheck l) (sym e ∙ a) in
+    let one = not-refused (not (same && (some && few))) BadSizes (headCheck l) (sym e ∙ a) in
     let fit : same && (some && few) ≡ true = not-false (same && (some && few)) (one .0) in
-    let two = not-refused (not (shapeOk l)) Sizes (refuse (not (clockOk (clockOf l))) Clock Accepted) (one .1) in
+    let two = not-refused (not (shapeOk l)) BadSizes (refuse (not (clockOk (clockOf l))) BadClock Accepted) (one .1) in
     let threads : 1 ≤ threadsOf (length t) (slotsOf l) = leb-true _ _ (and-left some few (and-right same (some && few) fit)) in
     record {
       sized = shaped l (not-false (shapeOk l) (two .0));
@@ -197,24 +176,21 @@ entry-passed wk l t e a =
       notes = omega arith;
     }
 
-pub entered : (wk l t : List ℕ) {k : Check} {n w : ℕ} → k ≡ recoverEntryCheck (length wk) l (length t) → k ≡ Accepted → n ≡ slotsOf l → w ≡ widthOf l → Entered wk l t n w
-entered wk l t e a p q = rw (p, q) (entry-passed wk l t e a)
+pub judged : (wk l t : List ℕ) {k : Check} {n w : ℕ} → k ≡ recoverEntryCheck (length wk) l (length t) → k ≡ Accepted → n ≡ slotsOf l → w ≡ widthOf l → Judged wk l t n w
+judged wk l t e a p q = rw (p, q) (entry-passed wk l t e a)
 
-pub entered-long : (wk l t : List ℕ) (j : ℕ) {k : Check} → k ≡ recoverEntryCheck (length wk) l (length t) → k ≡ Accepted → j < 3 → j < length l
-entered-long wk l t j e a h = let z = entry-passed wk l t e a .sized in omega arith
+pub judged-long : (wk l t : List ℕ) (j : ℕ) {k : Check} → k ≡ recoverEntryCheck (length wk) l (length t) → k ≡ Accepted → j < 3 → j < length l
+judged-long wk l t j e a h = let z = entry-passed wk l t e a .sized in omega arith
 
-unfoldable pub stepped : Store → ℕ → ℕ → Recovered
-stepped st n w = judged (slotsCheck (st .persistent) n w) st n
+pub judged-headers : {wk l t : List ℕ} {n w : ℕ} → Judged wk l t n w → Headers l n
+judged-headers z = headers-of (z .sized)
 
-pub entered-headers : {wk l t : List ℕ} {n w : ℕ} → Entered wk l t n w → Headers l n
-entered-headers z = headers-of (z .sized)
+pub judged-marked : {wk l t : List ℕ} {flags : List Bool} {n w : ℕ} → Judged wk l t n w → Marked l n flags → AllMarked l n w flags
+judged-marked z m = record { sized = z .sized; flagged = m .flagged }
 
-pub entered-marked : {wk l t : List ℕ} {flags : List Bool} {n w : ℕ} → Entered wk l t n w → Marked l n flags → AllMarked l n w flags
-entered-marked z m = record { sized = z .sized; flagged = m .flagged }
-
-pub entered-finishing : {wk l t : List ℕ} {flags : List Bool} {n w : ℕ} {k : Check} → Entered wk l t n w → Marked l n flags
+pub judged-finishing : {wk l t : List ℕ} {flags : List Bool} {n w : ℕ} {k : Check} → Judged wk l t n w → Marked l n flags
     → k ≡ slotsCheck l n w → k ≡ Accepted → Finishing wk l t flags n
-entered-finishing {wk} {l} {t} {flags} {n} {w} z m c a =
+judged-finishing {wk} {l} {t} {flags} {n} {w} z m c a =
     let s : Sound l n w = sound l n w (sym c ∙ a) in
     record {
       uids = record {
@@ -227,21 +203,21 @@ entered-finishing {wk} {l} {t} {flags} {n} {w} z m c a =
     }
 
 module _ (wk l t : List ℕ) (n w : ℕ) {k : Check} (c : k ≡ slotsCheck l n w) where
-  pub step-declines : {r : Refusal} → k ≡ Refused r → recovered (Declined r) wk l t ≡ stepped (store wk l t) n w
-  unfolding stepped
+  pub step-declines : {r : Refusal} → k ≡ Refused r → outcome (Declined r) wk l t ≡ recoverSized (store wk l t) n w
+  unfolding recoverSized
   step-declines a = rw (← c, a)
 
-  pub step-goes : {r : Recovered} → k ≡ Accepted → r ≡ freeing (nextFreed l n) (store wk l t) n → r ≡ stepped (store wk l t) n w
-  unfolding stepped
+  pub step-goes : {r : Outcome Recovery} → k ≡ Accepted → r ≡ freeing (nextFreed l n) (store wk l t) n → r ≡ recoverSized (store wk l t) n w
+  unfolding recoverSized
   step-goes a h = rw (← c, a) h
 
 module _ (wk l t : List ℕ) {k : Check} (c : k ≡ recoverEntryCheck (length wk) l (length t)) where
-  pub recover-declines : {r : Refusal} → k ≡ Refused r → recovered (Declined r) wk l t ≡ recover (store wk l t)
+  pub recover-declines : {r : Refusal} → k ≡ Refused r → outcome (Declined r) wk l t ≡ recover (store wk l t)
   unfolding recover recoverCheck
   recover-declines a = rw (← c, a)
 
-  pub recover-goes : (n w : ℕ) {r : Recovered} → k ≡ Accepted → n ≡ slotsOf l → w ≡ widthOf l → r ≡ stepped (store wk l t) n w → r ≡ recover (store wk l t)
-  unfolding recover recoverCheck stepped
+  pub recover-goes : (n w : ℕ) {r : Outcome Recovery} → k ≡ Accepted → n ≡ slotsOf l → w ≡ widthOf l → r ≡ recoverSized (store wk l t) n w → r ≡ recover (store wk l t)
+  unfolding recover recoverCheck recoverSized
   recover-goes n w a p q h = rw (← c, a, ← p, ← q) h
 
-pub ruleset steps = (climbs, flag-at, flag-header, flag-of, anti-is, stale-free, stale-survives, stale-anti, stale-yes, freed-stale, freed-anti, raise-miss, raise-up, raise-level, uid-fits, uid-is, finish-marked, finish-header, finish-slots, finish-done, free-on, free-done, entry-shape, entry-working, entry-threads, entry-head, entry-first, entry-slots, entered, entered-long, entered-marked, entered-headers, entered-finishing, step-declines, step-goes, recover-declines, recover-goes)
+pub ruleset steps = (tests, firsts, marks, climbs, flag-at, flag-header, flag-of, anti-is, stale-free, stale-survives, stale-anti, stale-yes, freed-stale, freed-anti, raise-miss, raise-up, raise-level, uid-fits, uid-is, finish-marked, finish-header, finish-slots, finish-blank, finish-done, free-on, free-done, entry-shape, entry-working, entry-threads, entry-head, entry-first, entry-slots, judged, judged-long, judged-marked, judged-headers, judged-finishing, step-declines, step-goes, recover-declines, recover-goes)

@@ -2,4 +2,5 @@ pub mod Recover
 pub mod Freed
 pub mod Steps
 pub mod Completes
+pub mod Requires
 pub mod Exits

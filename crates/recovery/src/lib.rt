@@ -7,11 +7,11 @@ ghost use mathlib.Core.Path.{_≡_};
 ghost use lib.ListN.{length};
 ghost use Rattle.search.specs.First.{firstOf};
 ghost use Rattle.search.specs.Largest.{raised};
-ghost use Rattle.transient.specs.Store.{store};
+ghost use Rattle.transient.specs.Store.{store, outcome};
 ghost use Rattle.survival.specs.Survivors.{survivor};
-ghost use Rattle.recovery.specs.Recover.{antiAt, stale, nextFreed, uidOf, nextUid, recoverEntryCheck, recovered, finished, freeing, recover};
-ghost use Rattle.survival.specs.Code.{Headers, HeaderOf, Marked};
-ghost use Rattle.recovery.specs.Code.{FlagAt, Uids, Finishing, Entered, stepped};
+ghost use Rattle.recovery.specs.Recover.{antiAt, stale, nextFreed, uidOf, nextUid, recoverEntryCheck, finished, freeing, recover};
+ghost use Rattle.survival.specs.Requires.{Headers, HeaderOf, Marked};
+ghost use Rattle.recovery.specs.Requires.{FlagAt, Uids, Finishing, Judged, recoverSized};
 
 // One recover call's answer: "went on", "done", or a refusal.
 pub enum Recovery {
@@ -118,7 +118,7 @@ fn finish(
 {
     let uid = next_uid(persistent, flags, n);
     image::contents::store_words(working, 0, persistent, persistent.len());
-    transient::notes::set_blank(transient, image::shape::narrow(n - 1), uid);
+    transient::notes::set_blank(transient, image::shape::narrow(n), uid);
 }
 
 fn free_next(
@@ -129,7 +129,7 @@ fn free_next(
     n: usize,
 ) -> Recovery
     requires { ⌜ Finishing (now working) (now persistent) (now transient) (now flags) n ⌝ }
-    ensures { λ r. ⌜ recovered r (now (working .exit)) (now (persistent .exit)) (now (transient .exit)) ≡ freeing (nextFreed (now (persistent .entry)) n) (store (now (working .entry)) (now (persistent .entry)) (now (transient .entry))) n ⌝ }
+    ensures { λ r. ⌜ outcome r (now (working .exit)) (now (persistent .exit)) (now (transient .exit)) ≡ freeing (nextFreed (now (persistent .entry)) n) (store (now (working .entry)) (now (persistent .entry)) (now (transient .entry))) n ⌝ }
 {
     match next_freed(persistent, flags, n) {
         Found::At(s) => {
@@ -149,15 +149,15 @@ fn check_entry(working: usize, persistent: &[u32], transient: usize) -> Check
 {
     if image::shape::shape_ok(persistent) {
         if working != persistent.len() {
-            return Check::Refused(Refusal::Sizes);
+            return Check::Refused(Refusal::BadSizes);
         }
         if transient::notes::threads_ok(transient, image::shape::wide(persistent[0])) {
             acceptance::check_head(persistent)
         } else {
-            Check::Refused(Refusal::Sizes)
+            Check::Refused(Refusal::BadSizes)
         }
     } else {
-        Check::Refused(Refusal::Sizes)
+        Check::Refused(Refusal::BadSizes)
     }
 }
 
@@ -169,8 +169,8 @@ fn recover_sized(
     n: usize,
     w: usize,
 ) -> Recovery
-    requires { ⌜ Entered (now working) (now persistent) (now transient) n w ⌝ }
-    ensures { λ r. ⌜ recovered r (now (working .exit)) (now (persistent .exit)) (now (transient .exit)) ≡ stepped (store (now (working .entry)) (now (persistent .entry)) (now (transient .entry))) n w ⌝ }
+    requires { ⌜ Judged (now working) (now persistent) (now transient) n w ⌝ }
+    ensures { λ r. ⌜ outcome r (now (working .exit)) (now (persistent .exit)) (now (transient .exit)) ≡ recoverSized (store (now (working .entry)) (now (persistent .entry)) (now (transient .entry))) n w ⌝ }
 {
     let flags = survival::survivors(persistent, n);
     match acceptance::check_slots(persistent, &flags, n, w) {
@@ -181,7 +181,7 @@ fn recover_sized(
 
 // One recover call, whatever working and transient hold.
 pub fn recover(working: &mut [u32], persistent: &mut [u32], transient: &mut [u32]) -> Recovery
-    ensures { λ r. ⌜ recovered r (now (working .exit)) (now (persistent .exit)) (now (transient .exit)) ≡ recover (store (now (working .entry)) (now (persistent .entry)) (now (transient .entry))) ⌝ }
+    ensures { λ r. ⌜ outcome r (now (working .exit)) (now (persistent .exit)) (now (transient .exit)) ≡ recover (store (now (working .entry)) (now (persistent .entry)) (now (transient .entry))) ⌝ }
 {
     match check_entry(working.len(), persistent, transient.len()) {
         Check::Refused(r) => Recovery::Declined(r),

@@ -1,9 +1,6 @@
 -- `anti_at`: each way out is a law.
 use borrow.Author.Needs.{needs}
-use Rattle.survival.specs.Code.{laws}
-use Rattle.survival.specs.Code.{marks}
-use Rattle.acceptance.specs.Code.{checks}
-use Rattle.recovery.specs.Code.{steps}
+use Rattle.recovery.specs.Exits.{steps}
 use Rattle.recovery.proofs.anti_at.Statement.{statement}
 use Rattle.recovery.proofs.anti_at.Tie as tie
 
@@ -11,6 +8,6 @@ pub anti-at-spec : {M : Type 1} → statement M
 anti-at-spec =
     tie.close
     (tie.spec
-    (λ c κs. search (needs, laws, marks, checks, steps))
-    (λ c κs. search (needs, laws, marks, checks, steps))
-    (λ c. search (needs, laws, marks, checks, steps)))
+    (λ c κs. search (needs, steps))
+    (λ c κs. search (needs, steps))
+    (λ c. search (needs, steps)))

@@ -1,12 +1,9 @@
 -- `first_stale`: a search.
 use borrow.Author.Needs.{needs}
-use Rattle.survival.specs.Code.{laws}
 use Prim.Native.Nat.{_-_}
 use Rattle.search.specs.First.{Sought}
 use Rattle.recovery.specs.Recover.{stale}
-use Rattle.survival.specs.Code.{marks}
-use Rattle.acceptance.specs.Code.{checks}
-use Rattle.recovery.specs.Code.{steps}
+use Rattle.recovery.specs.Exits.{steps}
 use Rattle.recovery.proofs.first_stale.Statement.{statement}
 use Rattle.recovery.proofs.first_stale.Tie as tie
 
@@ -22,10 +19,10 @@ first-stale-spec =
     (tie.spec
     Inv-loop
     μ-loop
-    (λ c. search (needs, laws, marks, checks, steps))
-    (λ c κs. search (needs, laws, marks, checks, steps))
-    (λ c. search (needs, laws, marks, checks, steps))
-    (λ c. search (needs, laws, marks, checks, steps))
-    (λ c. search (needs, laws, marks, checks, steps))
-    (λ c. search (needs, laws, marks, checks, steps))
-    (λ c. search (needs, laws, marks, checks, steps)))
+    (λ c. search (needs, steps))
+    (λ c κs. search (needs, steps))
+    (λ c. search (needs, steps))
+    (λ c. search (needs, steps))
+    (λ c. search (needs, steps))
+    (λ c. search (needs, steps))
+    (λ c. search (needs, steps)))

@@ -1,13 +1,10 @@
 -- `next_uid`: the loop has passed s of n slots (`Climbing`).
 use borrow.Author.Needs.{needs}
-use Rattle.survival.specs.Code.{laws}
 use Prim.Native.Nat.{_-_}
 use Rattle.search.specs.Largest.{Climbing}
 use Rattle.survival.specs.Survivors.{survivor}
 use Rattle.recovery.specs.Recover.{uidOf}
-use Rattle.survival.specs.Code.{marks}
-use Rattle.acceptance.specs.Code.{checks}
-use Rattle.recovery.specs.Code.{steps}
+use Rattle.recovery.specs.Exits.{steps}
 use Rattle.recovery.proofs.next_uid.Statement.{statement}
 use Rattle.recovery.proofs.next_uid.Tie as tie
 
@@ -23,10 +20,10 @@ next-uid-spec =
     (tie.spec
     Inv-loop
     μ-loop
-    (λ c. search (needs, laws, marks, checks, steps))
-    (λ c κs. search (needs, laws, marks, checks, steps))
-    (λ c. search (needs, laws, marks, checks, steps))
-    (λ c. search (needs, laws, marks, checks, steps))
-    (λ c. search (needs, laws, marks, checks, steps))
-    (λ c. search (needs, laws, marks, checks, steps))
-    (λ c. search (needs, laws, marks, checks, steps)))
+    (λ c. search (needs, steps))
+    (λ c κs. search (needs, steps))
+    (λ c. search (needs, steps))
+    (λ c. search (needs, steps))
+    (λ c. search (needs, steps))
+    (λ c. search (needs, steps))
+    (λ c. search (needs, steps)))

@@ -1,0 +1,49 @@
+-- What functions inside require: a flag beside an image, uids in range, and what refusals 1 and 2 of recover leave.
+use Prim.Native.Nat.{ℕ, _≤_, _<_}
+use mathlib.Core.Path.{_≡_}
+use mathlib.Core.Bool.{Bool}
+use mathlib.Core.List.{List}
+use lib.ListN.{length}
+use Rattle.image.specs.Layout.{mostNumber}
+use Rattle.image.specs.Requires.{HeaderFits, Sized}
+use Rattle.transient.specs.Layout.{headWords}
+use Rattle.transient.specs.Store.{Store, Outcome, afterCheck}
+use Rattle.survival.specs.Requires.{HeaderOf, Marked, header-in}
+use Rattle.acceptance.specs.Accept.{slotsCheck}
+use Rattle.recovery.specs.Recover.{nextFreed, uidOf, freeing}
+use Rattle.recovery.specs.declared.Recovery.{Recovery}
+use Rattle.recovery.specs.declared.Recovery.the-variants.{Declined}
+
+pub record FlagAt (l : List ℕ) (n s : ℕ) (flags : List Bool) : Type 0 where
+  pub marked : Marked l n flags
+  pub within : s < n
+
+pub flag-at : {l : List ℕ} {n s : ℕ} {flags : List Bool} → Marked l n flags → s < n → FlagAt l n s flags
+flag-at z h = record { marked = z; within = h }
+
+pub flag-header : {l : List ℕ} {n s : ℕ} {flags : List Bool} → FlagAt l n s flags → HeaderFits l n s
+flag-header z = header-in (z .marked .headers) (z .within)
+
+pub flag-of : {l : List ℕ} {n s : ℕ} {flags : List Bool} → FlagAt l n s flags → HeaderOf l n s
+flag-of z = record { headers = z .marked .headers; within = z .within }
+
+pub record Uids (l : List ℕ) (n : ℕ) (flags : List Bool) : Type 0 where
+  pub marked : Marked l n flags
+  pub uids : (s : ℕ) → s < n → uidOf l s ≤ mostNumber
+
+-- ---- the last call
+pub record Finishing (wk l t : List ℕ) (flags : List Bool) (n : ℕ) : Type 0 where
+  pub uids : Uids l n flags
+  pub some : 1 ≤ n
+  pub same : length wk ≡ length l
+  pub notes : headWords ≤ length t
+
+-- ---- past refusals 1 and 2
+pub record Judged (wk l t : List ℕ) (n w : ℕ) : Type 0 where
+  pub sized : Sized l n w
+  pub same : length wk ≡ length l
+  pub notes : headWords ≤ length t
+
+-- what is left of a call then
+unfoldable pub recoverSized : Store → ℕ → ℕ → Outcome Recovery
+recoverSized st n w = afterCheck (slotsCheck (st .persistent) n w) Declined st (freeing (nextFreed (st .persistent) n) st n)
