@@ -1,19 +1,20 @@
 // The calls on jobs.
 use reply::Check;
 ghost use mathlib.Core.Path.{_≡_};
-ghost use Rattle.transient.specs.Store.{store};
-ghost use Rattle.changes.specs.Changed.{replyNumber};
-ghost use Rattle.changes.specs.Open.{begin, end};
-ghost use Rattle.changes.specs.New.{new};
-ghost use Rattle.changes.specs.Set.{set};
-ghost use Rattle.changes.specs.Delete.{delete};
-ghost use Rattle.changes.specs.Format.{format};
-ghost use Rattle.changes.specs.Read.{read, readNumber, readPosition};
-ghost use Rattle.board.specs.Calls.{called, answerCall};
+ghost use Rattle.transient.specs.Store.{store, outcome};
+ghost use Rattle.transient.specs.Calls.{checkNumber};
+ghost use Rattle.format.specs.Format.{format};
+ghost use Rattle.begin_end.specs.Operation.{begin, end};
+ghost use Rattle.jobs.specs.Job.{job};
+ghost use Rattle.job_new.specs.New.{newJob};
+ghost use Rattle.job_set.specs.Set.{setJob};
+ghost use Rattle.job_delete.specs.Delete.{deleteJob};
+ghost use Rattle.job_read.specs.Read.{readJob, readNumber, readPosition};
+ghost use Rattle.board.specs.Calls.{numbered};
 
 // 0 for accepted, else 01's number of the refusal.
 pub fn reply_number(k: Check) -> u32
-    ensures { λ r. ⌜ r ≡ replyNumber k ⌝ }
+    ensures { λ r. ⌜ r ≡ checkNumber k ⌝ }
 {
     match k {
         Check::Accepted => 0,
@@ -29,9 +30,9 @@ pub extern "C" fn board_format(
     slots: u32,
     words: u32,
 ) -> u32
-    ensures { λ r. ⌜ called r (now (working .exit)) (now (persistent .exit)) (now (transient .exit)) ≡ answerCall (format (store (now (working .entry)) (now (persistent .entry)) (now (transient .entry))) slots words) ⌝ }
+    ensures { λ r. ⌜ outcome r (now (working .exit)) (now (persistent .exit)) (now (transient .exit)) ≡ numbered checkNumber (format (store (now (working .entry)) (now (persistent .entry)) (now (transient .entry))) slots words) ⌝ }
 {
-    reply_number(changes::format::format(working, persistent, transient, slots, words))
+    reply_number(format::format(working, persistent, transient, slots, words))
 }
 
 #[no_mangle]
@@ -41,9 +42,9 @@ pub extern "C" fn board_begin(
     transient: &mut [u32],
     thread: u32,
 ) -> u32
-    ensures { λ r. ⌜ called r (now (working .entry)) (now (persistent .entry)) (now (transient .exit)) ≡ answerCall (begin (store (now (working .entry)) (now (persistent .entry)) (now (transient .entry))) thread) ⌝ }
+    ensures { λ r. ⌜ outcome r (now (working .entry)) (now (persistent .entry)) (now (transient .exit)) ≡ numbered checkNumber (begin (store (now (working .entry)) (now (persistent .entry)) (now (transient .entry))) thread) ⌝ }
 {
-    reply_number(changes::open::begin(working, persistent, transient, thread))
+    reply_number(begin_end::begin(working, persistent, transient, thread))
 }
 
 #[no_mangle]
@@ -53,9 +54,9 @@ pub extern "C" fn board_end(
     transient: &mut [u32],
     thread: u32,
 ) -> u32
-    ensures { λ r. ⌜ called r (now (working .entry)) (now (persistent .entry)) (now (transient .exit)) ≡ answerCall (end (store (now (working .entry)) (now (persistent .entry)) (now (transient .entry))) thread) ⌝ }
+    ensures { λ r. ⌜ outcome r (now (working .entry)) (now (persistent .entry)) (now (transient .exit)) ≡ numbered checkNumber (end (store (now (working .entry)) (now (persistent .entry)) (now (transient .entry))) thread) ⌝ }
 {
-    reply_number(changes::open::end(working, persistent, transient, thread))
+    reply_number(begin_end::end(working, persistent, transient, thread))
 }
 
 #[no_mangle]
@@ -67,9 +68,9 @@ pub extern "C" fn board_new(
     key: u32,
     value: &[u32],
 ) -> u32
-    ensures { λ r. ⌜ called r (now (working .exit)) (now (persistent .entry)) (now (transient .exit)) ≡ answerCall (new (store (now (working .entry)) (now (persistent .entry)) (now (transient .entry))) thread key (now (value .entry))) ⌝ }
+    ensures { λ r. ⌜ outcome r (now (working .exit)) (now (persistent .entry)) (now (transient .exit)) ≡ numbered checkNumber (newJob (store (now (working .entry)) (now (persistent .entry)) (now (transient .entry))) thread (job key (now (value .entry)))) ⌝ }
 {
-    reply_number(change_new::new(working, persistent, transient, thread, key, value))
+    reply_number(job_new::new(working, persistent, transient, thread, key, value))
 }
 
 #[no_mangle]
@@ -81,9 +82,9 @@ pub extern "C" fn board_set(
     key: u32,
     value: &[u32],
 ) -> u32
-    ensures { λ r. ⌜ called r (now (working .exit)) (now (persistent .entry)) (now (transient .exit)) ≡ answerCall (set (store (now (working .entry)) (now (persistent .entry)) (now (transient .entry))) thread key (now (value .entry))) ⌝ }
+    ensures { λ r. ⌜ outcome r (now (working .exit)) (now (persistent .entry)) (now (transient .exit)) ≡ numbered checkNumber (setJob (store (now (working .entry)) (now (persistent .entry)) (now (transient .entry))) thread (job key (now (value .entry)))) ⌝ }
 {
-    reply_number(change_set::set(working, persistent, transient, thread, key, value))
+    reply_number(job_set::set(working, persistent, transient, thread, key, value))
 }
 
 #[no_mangle]
@@ -94,9 +95,9 @@ pub extern "C" fn board_delete(
     thread: u32,
     key: u32,
 ) -> u32
-    ensures { λ r. ⌜ called r (now (working .exit)) (now (persistent .entry)) (now (transient .exit)) ≡ answerCall (delete (store (now (working .entry)) (now (persistent .entry)) (now (transient .entry))) thread key) ⌝ }
+    ensures { λ r. ⌜ outcome r (now (working .exit)) (now (persistent .entry)) (now (transient .exit)) ≡ numbered checkNumber (deleteJob (store (now (working .entry)) (now (persistent .entry)) (now (transient .entry))) thread key) ⌝ }
 {
-    reply_number(change_delete::delete(working, persistent, transient, thread, key))
+    reply_number(job_delete::delete(working, persistent, transient, thread, key))
 }
 
 // Where the value starts in the working image, or 2^32 plus the refusal.
@@ -108,9 +109,9 @@ pub extern "C" fn board_read(
     thread: u32,
     key: u32,
 ) -> u64
-    ensures { λ r. ⌜ r ≡ readPosition (read (store (now (working .entry)) (now (persistent .entry)) (now (transient .entry))) thread key) (now (working .entry)) ⌝ }
+    ensures { λ r. ⌜ r ≡ readPosition (readJob (store (now (working .entry)) (now (persistent .entry)) (now (transient .entry))) thread key) (now (working .entry)) ⌝ }
 {
-    changes::read::read_position(working, persistent, transient, thread, key)
+    job_read::read_position(working, persistent, transient, thread, key)
 }
 
 #[no_mangle]
@@ -121,7 +122,7 @@ pub extern "C" fn board_read_refusal(
     thread: u32,
     key: u32,
 ) -> u32
-    ensures { λ r. ⌜ r ≡ readNumber (read (store (now (working .entry)) (now (persistent .entry)) (now (transient .entry))) thread key) ⌝ }
+    ensures { λ r. ⌜ r ≡ readNumber (readJob (store (now (working .entry)) (now (persistent .entry)) (now (transient .entry))) thread key) ⌝ }
 {
-    changes::read::read_refusal(working, persistent, transient, thread, key)
+    job_read::read_refusal(working, persistent, transient, thread, key)
 }

@@ -28,7 +28,7 @@ pub extern "C" fn board_transient_words(slots: u32, threads: u32) -> usize
         if 16 < t {
             return 0;
         }
-        4 + t + 3 * n
+        transient::notes::transient_words(n, t)
     } else {
         0
     }

@@ -2,9 +2,12 @@
 use epochs::Advance;
 use epochs::Sync;
 ghost use mathlib.Core.Path.{_≡_};
-ghost use Rattle.transient.specs.Store.{store};
+ghost use Rattle.transient.specs.Store.{store, outcome};
+ghost use Rattle.transient.specs.Calls.{checkNumber};
+ghost use Rattle.epochs.specs.Advance.{advance, advanceNumber};
+ghost use Rattle.epochs.specs.Sync.{sync, syncNumber};
 ghost use Rattle.epochs.specs.WriteBack.{writeBack};
-ghost use Rattle.board.specs.Calls.{called, answerCall, advanceCall, syncCall};
+ghost use Rattle.board.specs.Calls.{numbered};
 
 // 0 went on, 1 ticked, or 2^32 plus the refusal.
 #[no_mangle]
@@ -13,7 +16,7 @@ pub extern "C" fn board_advance(
     persistent: &mut [u32],
     transient: &mut [u32],
 ) -> u64
-    ensures { λ r. ⌜ called r (now (working .exit)) (now (persistent .exit)) (now (transient .exit)) ≡ advanceCall (store (now (working .entry)) (now (persistent .entry)) (now (transient .entry))) ⌝ }
+    ensures { λ r. ⌜ outcome r (now (working .exit)) (now (persistent .exit)) (now (transient .exit)) ≡ numbered advanceNumber (advance (store (now (working .entry)) (now (persistent .entry)) (now (transient .entry)))) ⌝ }
 {
     match epochs::advancing::advance(working, persistent, transient) {
         Advance::WentOn => 0,
@@ -35,7 +38,7 @@ pub extern "C" fn board_sync(
     persistent: &mut [u32],
     transient: &mut [u32],
 ) -> u64
-    ensures { λ r. ⌜ called r (now (working .exit)) (now (persistent .exit)) (now (transient .exit)) ≡ syncCall (store (now (working .entry)) (now (persistent .entry)) (now (transient .entry))) ⌝ }
+    ensures { λ r. ⌜ outcome r (now (working .exit)) (now (persistent .exit)) (now (transient .exit)) ≡ numbered syncNumber (sync (store (now (working .entry)) (now (persistent .entry)) (now (transient .entry)))) ⌝ }
 {
     match epochs::syncing::sync(working, persistent, transient) {
         Sync::Done(lines) => line_count(lines),
@@ -52,7 +55,7 @@ pub extern "C" fn board_write_back(
     slot: u32,
     line: u32,
 ) -> u32
-    ensures { λ r. ⌜ called r (now (working .entry)) (now (persistent .exit)) (now (transient .entry)) ≡ answerCall (writeBack (store (now (working .entry)) (now (persistent .entry)) (now (transient .entry))) slot line) ⌝ }
+    ensures { λ r. ⌜ outcome r (now (working .entry)) (now (persistent .exit)) (now (transient .entry)) ≡ numbered checkNumber (writeBack (store (now (working .entry)) (now (persistent .entry)) (now (transient .entry))) slot line) ⌝ }
 {
     crate::jobs::reply_number(epochs::write_back::write_back(
         working,

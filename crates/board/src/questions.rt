@@ -2,7 +2,8 @@
 use reply::Refusal;
 ghost use mathlib.Core.Path.{_≡_};
 ghost use Rattle.image.specs.Bytes.{wordsOf};
-ghost use Rattle.acceptance.specs.Questions.{Buffered, clockAnswer, survivorsAnswer, clockOfBytes, survivorsOfBytes};
+ghost use Rattle.acceptance.specs.Requires.{Buffered};
+ghost use Rattle.acceptance.specs.Questions.{clockAnswer, survivorsAnswer, clockOfBytes, survivorsOfBytes};
 
 fn clock_in(bytes: &[u8], words: &mut [u32]) -> u64
     requires { ⌜ Buffered (now bytes) (now words) ⌝ }
@@ -21,7 +22,7 @@ pub extern "C" fn board_clock(bytes: &[u8]) -> u64
         let mut words = [0u32; 12291];
         clock_in(bytes, &mut words)
     } else {
-        reply::declined(Refusal::Sizes)
+        reply::declined(Refusal::BadSizes)
     }
 }
 
@@ -42,6 +43,6 @@ pub extern "C" fn board_survivors(bytes: &[u8]) -> u64
         let mut words = [0u32; 12291];
         survivors_in(bytes, &mut words)
     } else {
-        reply::declined(Refusal::Sizes)
+        reply::declined(Refusal::BadSizes)
     }
 }

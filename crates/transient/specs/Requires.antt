@@ -12,6 +12,10 @@ use Rattle.transient.specs.declared.sizes.Sizes.{Sizes}
 use Rattle.transient.specs.Layout.{headWords, transientWords, lastTaken, nextUidOf, placeSlot}
 
 -- ---- the notes alone
+pub record InReach (n t : ℕ) : Type 0 where
+  pub slots-hi : n ≤ mostSlots
+  pub threads-hi : t ≤ 16
+
 pub record ThreadRoom (len n : ℕ) : Type 0 where
   pub slots-hi : n ≤ mostSlots
   pub room : headWords + 3 * n ≤ len

@@ -5,8 +5,8 @@ ghost use Prim.Native.Nat.{_+_, _≤_, _<_};
 ghost use lib.ListN.{length, replicate};
 ghost use Rattle.image.specs.Layout.{mostSlots};
 ghost use Rattle.image.specs.Line.{stored};
-ghost use Rattle.transient.specs.Layout.{headWords, threadsOf, threadsOk, blank, notedSlots, lastTaken, nextUidOf, placePhase, placeSlot, openEpoch, retiredIn, isWaiting, setLast, setNextUid, setOpen, setRetired, setWaiting, setPlace, emptied};
-ghost use Rattle.transient.specs.Requires.{ThreadRoom, Blanking, Notes, NoteOf, ThreadOf};
+ghost use Rattle.transient.specs.Layout.{headWords, transientWords, threadsOf, threadsOk, blank, notedSlots, lastTaken, nextUidOf, placePhase, placeSlot, openEpoch, retiredIn, isWaiting, setLast, setNextUid, setOpen, setRetired, setWaiting, setPlace, emptied};
+ghost use Rattle.transient.specs.Requires.{InReach, ThreadRoom, Blanking, Notes, NoteOf, ThreadOf};
 ghost use Rattle.transient.specs.Exits.{Based};
 
 // Where the words of the head stand, and how many these are; then come the threads, then the slots.
@@ -29,6 +29,14 @@ pub fn threads_ok(len: usize, n: usize) -> bool
 {
     let least = HEAD + 3 * n + 1;
     std::num::wrapping_sub_usize(len, least) < 16
+}
+
+// How many words the notes of `n` slots and `t` threads have.
+pub fn transient_words(n: usize, t: usize) -> usize
+    requires { ⌜ InReach n t ⌝ }
+    ensures { λ r. ⌜ r ≡ transientWords n t ⌝ }
+{
+    HEAD + t + 3 * n
 }
 
 // How many threads a slice of this length has, for `n` slots.

@@ -1,6 +1,6 @@
 -- `board_begin`: each way out is a law.
 use borrow.Author.Needs.{needs}
-use Rattle.board.specs.Code.{laws}
+use Rattle.board.specs.Exits.{laws}
 use Rattle.board.proofs.jobs.board_begin.Statement.{statement}
 use Rattle.board.proofs.jobs.board_begin.Tie as tie
 

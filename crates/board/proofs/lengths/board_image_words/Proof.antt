@@ -1,6 +1,6 @@
 -- `board_image_words`: each way out is a law.
 use borrow.Author.Needs.{needs}
-use Rattle.board.specs.Code.{laws}
+use Rattle.board.specs.Exits.{laws}
 use Rattle.board.proofs.lengths.board_image_words.Statement.{statement}
 use Rattle.board.proofs.lengths.board_image_words.Tie as tie
 

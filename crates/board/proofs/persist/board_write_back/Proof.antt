@@ -1,6 +1,6 @@
 -- `board_write_back`: each way out is a law.
 use borrow.Author.Needs.{needs}
-use Rattle.board.specs.Code.{laws}
+use Rattle.board.specs.Exits.{laws}
 use Rattle.board.proofs.persist.board_write_back.Statement.{statement}
 use Rattle.board.proofs.persist.board_write_back.Tie as tie
 

@@ -1,6 +1,6 @@
 -- `board_clock`: each way out is a law.
 use borrow.Author.Needs.{needs}
-use Rattle.board.specs.Code.{laws}
+use Rattle.board.specs.Exits.{laws}
 use Rattle.board.proofs.questions.board_clock.Statement.{statement}
 use Rattle.board.proofs.questions.board_clock.Tie as tie
 

@@ -1,6 +1,6 @@
 -- `clock_in`: each way out is a law.
 use borrow.Author.Needs.{needs}
-use Rattle.board.specs.Code.{laws}
+use Rattle.board.specs.Exits.{laws}
 use Rattle.board.proofs.questions.clock_in.Statement.{statement}
 use Rattle.board.proofs.questions.clock_in.Tie as tie
 

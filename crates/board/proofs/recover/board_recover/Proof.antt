@@ -1,6 +1,6 @@
 -- `board_recover`: each way out is a law.
 use borrow.Author.Needs.{needs}
-use Rattle.board.specs.Code.{laws}
+use Rattle.board.specs.Exits.{laws}
 use Rattle.board.proofs.recover.board_recover.Statement.{statement}
 use Rattle.board.proofs.recover.board_recover.Tie as tie
 
