@@ -1,4 +1,4 @@
--- What a way in says, how a call goes on by it, and how a slot is superseded.
+-- What a way in says, and how a call goes on by it.
 use Prim.Native.Nat.{ℕ, _-_, _<_}
 use mathlib.Core.Path.{_≡_, refl, sym, _∙_}
 use mathlib.Core.Logic.{_≢_}
@@ -9,22 +9,16 @@ use lib.Dec.{leb, eqb}
 use borrow.Author.Tests.{leb-false, eqb-true, eqb-false, not-false}
 use native.Mathlib.Omega.{arith}
 use Rattle.search.specs.Bools.{or-left, or-right}
-use Rattle.search.specs.declared.Found.{Found}
-use Rattle.search.specs.declared.Found.the-variants.{At, Nothing}
-use Rattle.reply.specs.declared.Check.the-variants.{Accepted}
 use Rattle.reply.specs.declared.Refusal.{Refusal}
-use Rattle.reply.specs.declared.Refusal.the-variants.{NoThread, NotOpen, BadArgument, Full}
-use Rattle.image.specs.declared.header.Header.{Header}
+use Rattle.reply.specs.declared.Refusal.the-variants.{NoThread, NotOpen, BadArgument}
 use Rattle.transient.specs.declared.sizes.Sizes.{Sizes}
-use Rattle.transient.specs.Layout.{openEpoch, setRetired}
+use Rattle.transient.specs.Layout.{openEpoch}
 use Rattle.transient.specs.Store.{Table}
-use Rattle.transient.specs.Calls.{Changed, changed, refused}
+use Rattle.transient.specs.Calls.{Changed, refused}
 use Rattle.transient.specs.Requires.{Entered}
-use Rattle.table.specs.Find.{room}
-use Rattle.table.specs.Fill.{filledSlot, taken}
 use Rattle.jobs.specs.declared.way.Way.{Way}
 use Rattle.jobs.specs.declared.way.Way.the-variants.{Open, Declined}
-use Rattle.jobs.specs.Job.{Job, job, badJob, superseded}
+use Rattle.jobs.specs.Job.{Job, job, badJob}
 use Rattle.jobs.specs.Way.{wayIn, byWay}
 use Rattle.jobs.specs.Requires.{Valued}
 
@@ -73,12 +67,3 @@ module _ (z : Sizes) (tb : Table) (thread : ℕ) (bad : Bool) (next : ℕ → Ch
 
   pub way-open : {e : ℕ} {x : Changed} → k ≡ Open e → x ≡ next e → x ≡ byWay (wayIn z (tb .transient) thread bad) tb next
   way-open a p = rw (← way, a) p
-
--- ---- a slot is superseded
-module _ (z : Sizes) (tb : Table) (e s : ℕ) (h : Header) (words : List ℕ) (k : ℕ) {g : Found} (c : g ≡ room z tb k) where
-  pub super-full : g ≡ Nothing → refused Full tb ≡ superseded (room z tb k) z tb e s h words
-  super-full a = rw (← c, a)
-
-  pub super-done : {f : ℕ} {wk′ tr′ : List ℕ} → g ≡ At f → wk′ ≡ filledSlot z (tb .working) f h words → tr′ ≡ setRetired z (taken z (tb .transient) e f) s e
-      → changed Accepted wk′ tr′ ≡ superseded (room z tb k) z tb e s h words
-  super-done a p q = rw (← c, a, p, q)
