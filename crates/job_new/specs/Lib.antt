@@ -1,1 +1,4 @@
-pub mod Code
+pub mod New
+pub mod Requires
+pub mod Keeps
+pub mod Exits

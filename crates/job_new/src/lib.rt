@@ -16,7 +16,15 @@ ghost use Rattle.jobs.specs.Requires.{Valued};
 ghost use Rattle.job_new.specs.New.{newAt, newIn, newAbsent, newOpen, newSized, newJob};
 ghost use Rattle.job_new.specs.Requires.{Ready, Placed};
 
-fn new_at(working: &mut [u32], transient: &mut [u32], z: Sizes, e: u32, s: usize, key: u32, value: &[u32]) -> Check
+fn new_at(
+    working: &mut [u32],
+    transient: &mut [u32],
+    z: Sizes,
+    e: u32,
+    s: usize,
+    key: u32,
+    value: &[u32],
+) -> Check
     requires { ⌜ Placed (now working) (now transient) z s (now value) ⌝ }
     ensures { λ r. ⌜ changed r (now (working .exit)) (now (transient .exit)) ≡ newAt z (table (now (working .entry)) (now (transient .entry))) e s (job key (now (value .entry))) ⌝ }
 {
@@ -27,7 +35,14 @@ fn new_at(working: &mut [u32], transient: &mut [u32], z: Sizes, e: u32, s: usize
     Check::Accepted
 }
 
-fn new_in_room(working: &mut [u32], transient: &mut [u32], z: Sizes, e: u32, key: u32, value: &[u32]) -> Check
+fn new_in_room(
+    working: &mut [u32],
+    transient: &mut [u32],
+    z: Sizes,
+    e: u32,
+    key: u32,
+    value: &[u32],
+) -> Check
     requires { ⌜ Ready (now working) (now transient) z (now value) ⌝ }
     ensures { λ r. ⌜ changed r (now (working .exit)) (now (transient .exit)) ≡ newIn (room z (table (now (working .entry)) (now (transient .entry))) 2) z (table (now (working .entry)) (now (transient .entry))) e (job key (now (value .entry))) ⌝ }
 {
@@ -37,7 +52,14 @@ fn new_in_room(working: &mut [u32], transient: &mut [u32], z: Sizes, e: u32, key
     }
 }
 
-fn new_absent(working: &mut [u32], transient: &mut [u32], z: Sizes, e: u32, key: u32, value: &[u32]) -> Check
+fn new_absent(
+    working: &mut [u32],
+    transient: &mut [u32],
+    z: Sizes,
+    e: u32,
+    key: u32,
+    value: &[u32],
+) -> Check
     requires { ⌜ Valued (now working) (now transient) z (now value) ⌝ }
     ensures { λ r. ⌜ changed r (now (working .exit)) (now (transient .exit)) ≡ newAbsent z (table (now (working .entry)) (now (transient .entry))) e (job key (now (value .entry))) ⌝ }
 {
@@ -47,7 +69,14 @@ fn new_absent(working: &mut [u32], transient: &mut [u32], z: Sizes, e: u32, key:
     new_in_room(working, transient, z, e, key, value)
 }
 
-fn new_open(working: &mut [u32], transient: &mut [u32], z: Sizes, e: u32, key: u32, value: &[u32]) -> Check
+fn new_open(
+    working: &mut [u32],
+    transient: &mut [u32],
+    z: Sizes,
+    e: u32,
+    key: u32,
+    value: &[u32],
+) -> Check
     requires { ⌜ Valued (now working) (now transient) z (now value) ⌝ }
     ensures { λ r. ⌜ changed r (now (working .exit)) (now (transient .exit)) ≡ newOpen z (table (now (working .entry)) (now (transient .entry))) (job key (now (value .entry))) e ⌝ }
 {
@@ -58,7 +87,14 @@ fn new_open(working: &mut [u32], transient: &mut [u32], z: Sizes, e: u32, key: u
     }
 }
 
-fn new_sized(working: &mut [u32], transient: &mut [u32], z: Sizes, thread: usize, key: u32, value: &[u32]) -> Check
+fn new_sized(
+    working: &mut [u32],
+    transient: &mut [u32],
+    z: Sizes,
+    thread: usize,
+    key: u32,
+    value: &[u32],
+) -> Check
     requires { ⌜ Entered (now working) (now transient) z ⌝ }
     ensures { λ r. ⌜ changed r (now (working .exit)) (now (transient .exit)) ≡ newSized thread (job key (now (value .entry))) z (table (now (working .entry)) (now (transient .entry))) ⌝ }
 {
@@ -69,16 +105,36 @@ fn new_sized(working: &mut [u32], transient: &mut [u32], z: Sizes, thread: usize
     }
 }
 
-fn new_entered(working: &mut [u32], transient: &mut [u32], thread: u32, key: u32, value: &[u32]) -> Check
+fn new_entered(
+    working: &mut [u32],
+    transient: &mut [u32],
+    thread: u32,
+    key: u32,
+    value: &[u32],
+) -> Check
     requires { ⌜ Entered (now working) (now transient) (sizesOf (table (now working) (now transient))) ⌝ }
     ensures { λ r. ⌜ changed r (now (working .exit)) (now (transient .exit)) ≡ newSized thread (job key (now (value .entry))) (sizesOf (table (now (working .entry)) (now (transient .entry)))) (table (now (working .entry)) (now (transient .entry))) ⌝ }
 {
     let z = transient::sizes::read_sizes(working, transient);
-    new_sized(working, transient, z, image::shape::wide(thread), key, value)
+    new_sized(
+        working,
+        transient,
+        z,
+        image::shape::wide(thread),
+        key,
+        value,
+    )
 }
 
 // Makes a job in the open operation of the thread.
-pub fn new(working: &mut [u32], persistent: &[u32], transient: &mut [u32], thread: u32, key: u32, value: &[u32]) -> Check
+pub fn new(
+    working: &mut [u32],
+    persistent: &[u32],
+    transient: &mut [u32],
+    thread: u32,
+    key: u32,
+    value: &[u32],
+) -> Check
     ensures { λ r. ⌜ outcome r (now (working .exit)) (now (persistent .entry)) (now (transient .exit)) ≡ newJob (store (now (working .entry)) (now (persistent .entry)) (now (transient .entry))) thread (job key (now (value .entry))) ⌝ }
 {
     match transient::entry::check(working, persistent, transient) {

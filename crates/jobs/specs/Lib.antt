@@ -1,12 +1,6 @@
-pub mod Changed
-pub mod Open
 pub mod Job
-pub mod New
-pub mod Set
-pub mod Delete
-pub mod Read
-pub mod Format
-pub mod Code
-pub mod ReadCode
-pub mod FormatCode
-pub mod Kept
+pub mod Way
+pub mod Requires
+pub mod Laws
+pub mod Keeps
+pub mod Exits

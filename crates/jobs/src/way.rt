@@ -2,7 +2,6 @@
 use reply::Refusal;
 use transient::sizes::Sizes;
 ghost use mathlib.Core.Path.{_≡_};
-ghost use lib.ListN.{length};
 ghost use Rattle.transient.specs.Requires.{Notes};
 ghost use Rattle.jobs.specs.Job.{job, badJob};
 ghost use Rattle.jobs.specs.Way.{wayIn};

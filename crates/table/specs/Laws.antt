@@ -1,68 +1,103 @@
--- Get/set laws of filling a slot and of rewriting its value.
-use Prim.Native.Nat.{ℕ, suc, _+_, _-_, _<_}
-use mathlib.Core.Path.{_≡_, sym, _∙_}
-use mathlib.Core.Logic.{_≢_, inl, inr}
+-- Get/set laws of filling a slot and of rewriting its value; and that a slot found is one of the table.
+use Prim.Native.Nat.{ℕ, zero, suc, _+_, _<_}
+use mathlib.Core.Path.{_≡_, refl, sym, ap, _∙_}
+use mathlib.Core.Logic.{_≢_, ⊎-elim}
+use mathlib.Core.Bool.{true, false}
 use mathlib.Core.List.{List, _∷_}
-use lib.ListN.{length, getD}
-use lib.Seq.{ext-getD}
+use lib.ListN.{length, getD, set}
+use lib.Seq.{set-getD}
+use lib.Dec.{leb}
 use native.Mathlib.Omega.{arith}
-use native.Mathlib.Decide.{decLt, ℕ-discrete}
+use Rattle.search.specs.Bools.{cases}
+use Rattle.search.specs.First.{found-first}
+use Rattle.search.specs.Count.{count}
+use Rattle.search.specs.Ring.{firstRound, round-found}
+use Rattle.search.specs.declared.Found.{Found}
+use Rattle.search.specs.declared.Found.the-variants.{At, Nothing}
 use Rattle.image.specs.declared.header.Header.{Header}
-use Rattle.image.specs.Layout.{contentsAt, header, contents, keyAt, stored, setContents, Slot}
-use Rattle.image.specs.Laws.{length-stored, stored-outside, stored-inside, length-setHeader, header-same, header-other, contents-setHeader, front-setHeader, length-setContents, contents-same, contents-other, header-setContents, front-setContents, slot-after}
-use Rattle.image.specs.Code.{header-fits}
+use Rattle.image.specs.Layout.{contentsAt, header, contents, keyAt}
+use Rattle.image.specs.Line.{headerLine, contentsLine, stored, storeLine}
+use Rattle.image.specs.Name.{Name}
+use Rattle.image.specs.Requires.{Slot, slot-header, slot-after}
+use Rattle.image.specs.Laws.{length-store, header-same, header-other, contents-past-header, front-past-header, contents-same, contents-other, header-past-contents, front-past-contents}
+use Rattle.transient.specs.declared.sizes.Sizes.{Sizes}
+use Rattle.transient.specs.Layout.{lastTaken}
+use Rattle.transient.specs.Store.{Table}
+use Rattle.table.specs.declared.find.Lookup.the-variants.{Later, Live}
+use Rattle.table.specs.Find.{newer, liveAt, liveSlot, lookedUp, lookup, freeAt, room}
 use Rattle.table.specs.Fill.{setValue, filledSlot}
 
 -- ---- a filled slot
-module _ (l : List ℕ) (n w s : ℕ) (h : Header) (line : List ℕ) where
-  pub length-filled : length (filledSlot l n w s h line) ≡ length l
-  unfolding filledSlot
-  length-filled = length-setHeader (setContents l n w s line) s h ∙ length-setContents l n w s line
+module _ (z : Sizes) (l : List ℕ) (s : ℕ) (h : Header) (words : List ℕ) where
+  held : List ℕ
+  held = storeLine l (contentsLine (z .n) (z .w) s words)
 
-  pub front-filled : (j : ℕ) → j < 3 → getD (filledSlot l n w s h line) j 0 ≡ getD l j 0
-  unfolding filledSlot
-  front-filled j k = front-setHeader (setContents l n w s line) s j h k ∙ front-setContents l n w s j line (omega arith)
+  pub length-filled : length (filledSlot z l s h words) ≡ length l
+  unfolding filledSlot held
+  length-filled = length-store held (headerLine s h) ∙ length-store l (contentsLine (z .n) (z .w) s words)
 
-  pub header-filled : Slot l n w s → header (filledSlot l n w s h line) s ≡ h
-  unfolding filledSlot
-  header-filled z =
-      let z′ : Slot (setContents l n w s line) n w s = slot-after (length-setContents l n w s line) z in
-      header-same h (header-fits (z′ .sized) (z′ .within))
+  pub front-filled : (j : ℕ) → j < 3 → getD (filledSlot z l s h words) j 0 ≡ getD l j 0
+  unfolding filledSlot held
+  front-filled j k = front-past-header held s j h k ∙ front-past-contents l (z .n) (z .w) s j words k
 
-  pub header-filled-other : (m : ℕ) → m < n → m ≢ s → header (filledSlot l n w s h line) m ≡ header l m
+  pub header-filled : Slot l (z .n) (z .w) s → header (filledSlot z l s h words) s ≡ h
   unfolding filledSlot
-  header-filled-other m k d = header-other (setContents l n w s line) s m h d ∙ header-setContents l n w s m line k
+  header-filled y = header-same h (slot-header (slot-after (length-store l (contentsLine (z .n) (z .w) s words)) y))
 
-  pub contents-filled : Slot l n w s → length line ≡ w → contents (filledSlot l n w s h line) n w s ≡ line
-  unfolding filledSlot
-  contents-filled z e = contents-setHeader (setContents l n w s line) n w s s h (z .within) ∙ contents-same line z e
+  pub header-filled-other : (m : ℕ) → m < z .n → m ≢ s → header (filledSlot z l s h words) m ≡ header l m
+  unfolding filledSlot held
+  header-filled-other m k d = header-other held s m h d ∙ header-past-contents l (z .n) (z .w) s m words k
 
-  pub contents-filled-other : (m : ℕ) → Slot l n w m → s < n → m ≢ s → contents (filledSlot l n w s h line) n w m ≡ contents l n w m
-  unfolding filledSlot
-  contents-filled-other m z k d = contents-setHeader (setContents l n w s line) n w s m h k ∙ contents-other line z d
+  pub contents-filled : Slot l (z .n) (z .w) s → length words ≡ z .w → contents (filledSlot z l s h words) (z .n) (z .w) s ≡ words
+  unfolding filledSlot held
+  contents-filled y e = contents-past-header held (z .n) (z .w) s s h (y .within) ∙ contents-same words e y
 
--- ---- a value rewritten in place: the contents with the old key and the new value
-pub value-is-contents : {l : List ℕ} {n w s : ℕ} (v : List ℕ) → Slot l n w s → length v + 1 ≡ w → setValue l n w s v ≡ setContents l n w s (keyAt l n w s ∷ v)
-unfolding setValue setContents keyAt
-value-is-contents {l} {n} {w} {s} v z e =
-    let b = contentsAt n w s in
-    let k = getD l b 0 in
-    ext-getD 0 (stored l (b + 1) v (w - 1)) (stored l b (k ∷ v) w) (length-stored l (b + 1) v (w - 1) ∙ sym (length-stored l b (k ∷ v) w))
-    (λ i h. elim (decLt i b) [
-      | yes a ↦ stored-outside l (b + 1) v (w - 1) i (inl (omega arith)) ∙ sym (stored-outside l b (k ∷ v) w i (inl a))
-      | no a ↦ elim (decLt i (b + w)) [
-        | no c ↦ stored-outside l (b + 1) v (w - 1) i (inr (omega arith)) ∙ sym (stored-outside l b (k ∷ v) w i (inr (omega arith)))
-        | yes c ↦ elim (ℕ-discrete i b) [
-          | yes q ↦ rw q (stored-outside l (b + 1) v (w - 1) b (inl (omega arith)) ∙ sym (key-word k))
-          | no q ↦
-              let at : i ≡ b + 1 + (i - (b + 1)) = omega arith in
-              let at′ : b + 1 + (i - (b + 1)) ≡ b + suc (i - (b + 1)) = omega arith in
-              rw at (stored-inside l (b + 1) v (w - 1) (i - (b + 1)) (omega arith) (omega arith) ∙ sym (rw at′ (stored-inside l b (k ∷ v) w (suc (i - (b + 1))) (omega arith) (omega arith))))
-        ]
-      ]
-    ])
-  where
-    key-word : (k : ℕ) → getD (stored l (contentsAt n w s) (k ∷ v) w) (contentsAt n w s) 0 ≡ k
-    key-word k =
-        let q : contentsAt n w s + 0 ≡ contentsAt n w s = omega arith in
-        rw q at (stored-inside l (contentsAt n w s) (k ∷ v) w 0 (omega (arith, z .sized .sizes)) (omega arith))
+  pub contents-filled-other : (m : ℕ) → s < z .n → length words ≡ z .w → m ≢ s → contents (filledSlot z l s h words) (z .n) (z .w) m ≡ contents l (z .n) (z .w) m
+  unfolding filledSlot held
+  contents-filled-other m k e d = contents-past-header held (z .n) (z .w) s m h k ∙ contents-other l (z .n) (z .w) s m words e d
+
+-- ---- a key stored, then the value: that is the contents
+stored-cons : (l : List ℕ) (b key : ℕ) (value : List ℕ) (j : ℕ) → stored (set l b key) (b + 1) value j ≡ stored l b (key ∷ value) (suc j)
+unfolding stored
+stored-cons l b key value zero = let e : b + 0 ≡ b = omega arith in rw e
+stored-cons l b key value (suc j) = let e : b + suc j ≡ b + 1 + j = omega arith in rw (stored-cons l b key value j, e)
+
+module _ (z : Sizes) (l : List ℕ) (s : ℕ) (value : List ℕ) where
+  pub key-then-value : (key : ℕ) → setValue z (set l (contentsAt (z .n) (z .w) s) key) s value ≡ storeLine l (contentsLine (z .n) (z .w) s (key ∷ value))
+  unfolding setValue storeLine
+  key-then-value key = stored-cons l (contentsAt (z .n) (z .w) s) key value (length value)
+
+  -- a value rewritten in place: the contents with the old key
+  pub value-is-contents : setValue z l s value ≡ storeLine l (contentsLine (z .n) (z .w) s (keyAt l (z .n) (z .w) s ∷ value))
+  unfolding keyAt
+  value-is-contents =
+      let k = getD l (contentsAt (z .n) (z .w) s) 0 in
+      ap (λ (x : List ℕ). setValue z x s value) (sym (set-getD l (contentsAt (z .n) (z .w) s) 0)) ∙ key-then-value k
+
+-- ---- a slot found is one of the table
+module _ (z : Sizes) (tb : Table) where
+  pub room-below : (k s : ℕ) → lastTaken (tb .transient) < z .n → room z tb k ≡ At s → s < z .n
+  unfolding room
+  room-below k s h e =
+      ⊎-elim
+      (λ (t : leb k (count (freeAt (tb .working)) (z .n)) ≡ true).
+      let q : firstRound (freeAt (tb .working)) (z .n) (lastTaken (tb .transient)) (z .n) ≡ At s = rw t at e in
+      round-found (freeAt (tb .working)) (z .n) (lastTaken (tb .transient)) (z .n) s h (omega arith) q .0)
+      (λ (u : leb k (count (freeAt (tb .working)) (z .n)) ≡ false). let q : Nothing ≡ At s = rw u at e in let y : _≡_ {A = ℕ} 0 1 = cc in absurd (omega arith))
+      (cases (leb k (count (freeAt (tb .working)) (z .n))))
+
+  pub live-below : (name : Name) (s : ℕ) → liveSlot z tb name ≡ At s → s < z .n
+  unfolding liveSlot
+  live-below name s e = found-first (liveAt z tb name) (z .n) e .below
+
+  pub lookup-below : (name : Name) (e s : ℕ) → lookup z tb name e ≡ Live s → s < z .n
+  unfolding lookup
+  lookup-below name e s h =
+      ⊎-elim
+      (λ (y : newer z (tb .working) name e ≡ true). let q : Later ≡ Live s = rw y at h in let x : _≡_ {A = ℕ} 0 1 = cc in absurd (omega arith))
+      (λ (y : newer z (tb .working) name e ≡ false). let q : lookedUp (liveSlot z tb name) ≡ Live s = rw y at h in go (liveSlot z tb name) refl q)
+      (cases (newer z (tb .working) name e))
+    where
+      go : (f : Found) → liveSlot z tb name ≡ f → lookedUp f ≡ Live s → s < z .n
+      go (At u) q r = let x : u ≡ s = cc in let b : u < z .n = live-below name u q in omega arith
+      go Nothing q r = let x : _≡_ {A = ℕ} 0 1 = cc in absurd (omega arith)

@@ -1,4 +1,5 @@
 pub mod Find
 pub mod Fill
+pub mod Requires
 pub mod Laws
-pub mod Code
+pub mod Exits

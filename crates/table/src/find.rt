@@ -35,13 +35,7 @@ fn newer_at(working: &[u32], z: Sizes, key: u32, e: u32, s: usize) -> bool
     }
 }
 
-fn live_at(
-    working: &[u32],
-    transient: &[u32],
-    z: Sizes,
-    key: u32,
-    s: usize,
-) -> bool
+fn live_at(working: &[u32], transient: &[u32], z: Sizes, key: u32, s: usize) -> bool
     requires { ⌜ ShapedSlot (now working) (now transient) z s ⌝ }
     ensures { λ r. ⌜ r ≡ liveAt z (table (now (working .entry)) (now (transient .entry))) (jobName key) s ⌝ }
 {
@@ -58,12 +52,7 @@ fn live_at(
 }
 
 // The lowest live slot of a key.
-pub fn find_live(
-    working: &[u32],
-    transient: &[u32],
-    z: Sizes,
-    key: u32,
-) -> Found
+pub fn find_live(working: &[u32], transient: &[u32], z: Sizes, key: u32) -> Found
     requires { ⌜ Shaped (now working) (now transient) z ⌝ }
     ensures { λ r. ⌜ r ≡ liveSlot z (table (now (working .entry)) (now (transient .entry))) (jobName key) ⌝ }
 {
@@ -97,13 +86,7 @@ fn live_up_to(
 }
 
 // Both questions in one walk up the table.
-pub fn look_up(
-    working: &[u32],
-    transient: &[u32],
-    z: Sizes,
-    key: u32,
-    e: u32,
-) -> Lookup
+pub fn look_up(working: &[u32], transient: &[u32], z: Sizes, key: u32, e: u32) -> Lookup
     requires { ⌜ Shaped (now working) (now transient) z ⌝ }
     ensures { λ r. ⌜ r ≡ lookup z (table (now (working .entry)) (now (transient .entry))) (jobName key) e ⌝ }
 {

@@ -1,8 +1,8 @@
 -- `new_entered`: each way out is a law.
 use borrow.Author.Needs.{needs}
-use Rattle.change_new.specs.Code.{laws}
-use Rattle.change_new.proofs.new_entered.Statement.{statement}
-use Rattle.change_new.proofs.new_entered.Tie as tie
+use Rattle.job_new.specs.Exits.{laws}
+use Rattle.job_new.proofs.new_entered.Statement.{statement}
+use Rattle.job_new.proofs.new_entered.Tie as tie
 
 pub new-entered-spec : {M : Type 1} → statement M
 new-entered-spec =

@@ -1,23 +1,20 @@
 -- `new_sized`: each way out is a law.
 use borrow.Author.Needs.{needs}
-use Rattle.change_new.specs.Code.{laws}
-use Rattle.change_new.proofs.new_sized.Statement.{statement}
-use Rattle.change_new.proofs.new_sized.Tie as tie
+use Rattle.job_new.specs.Exits.{laws}
+use Rattle.job_new.proofs.new_sized.Statement.{statement}
+use Rattle.job_new.proofs.new_sized.Tie as tie
 
 pub new-sized-spec : {M : Type 1} → statement M
 new-sized-spec =
     tie.close
     (tie.spec
+    (λ c κs. search (needs, laws))
+    (λ c κs. search (needs, laws))
+    (λ c. search (needs, laws))
     (λ c. search (needs, laws))
     (λ c κs. search (needs, laws))
     (λ c. search (needs, laws))
     (λ c. search (needs, laws))
-    (λ c. search (needs, laws))
-    (λ c. search (needs, laws))
-    (λ c. search (needs, laws))
-    (λ c. search (needs, laws))
-    (λ c. search (needs, laws))
-    (λ c κs. search (needs, laws))
     (λ c. search (needs, laws))
     (λ c. search (needs, laws))
     (λ c. search (needs, laws)))

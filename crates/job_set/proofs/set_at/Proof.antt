@@ -1,8 +1,8 @@
 -- `set_at`: each way out is a law.
 use borrow.Author.Needs.{needs}
-use Rattle.change_set.specs.Code.{laws}
-use Rattle.change_set.proofs.set_at.Statement.{statement}
-use Rattle.change_set.proofs.set_at.Tie as tie
+use Rattle.job_set.specs.Exits.{laws}
+use Rattle.job_set.proofs.set_at.Statement.{statement}
+use Rattle.job_set.proofs.set_at.Tie as tie
 
 pub set-at-spec : {M : Type 1} → statement M
 set-at-spec =

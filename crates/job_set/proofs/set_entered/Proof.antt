@@ -1,8 +1,8 @@
 -- `set_entered`: each way out is a law.
 use borrow.Author.Needs.{needs}
-use Rattle.change_set.specs.Code.{laws}
-use Rattle.change_set.proofs.set_entered.Statement.{statement}
-use Rattle.change_set.proofs.set_entered.Tie as tie
+use Rattle.job_set.specs.Exits.{laws}
+use Rattle.job_set.proofs.set_entered.Statement.{statement}
+use Rattle.job_set.proofs.set_entered.Tie as tie
 
 pub set-entered-spec : {M : Type 1} → statement M
 set-entered-spec =

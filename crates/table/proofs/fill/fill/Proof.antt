@@ -1,6 +1,6 @@
 -- `fill`: each way out is a law.
 use borrow.Author.Needs.{needs}
-use Rattle.table.specs.Code.{fills}
+use Rattle.table.specs.Exits.{fills}
 use Rattle.table.proofs.fill.fill.Statement.{statement}
 use Rattle.table.proofs.fill.fill.Tie as tie
 

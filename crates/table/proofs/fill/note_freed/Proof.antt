@@ -1,6 +1,6 @@
 -- `note_freed`: each way out is a law.
 use borrow.Author.Needs.{needs}
-use Rattle.table.specs.Code.{fills}
+use Rattle.table.specs.Exits.{fills}
 use Rattle.table.proofs.fill.note_freed.Statement.{statement}
 use Rattle.table.proofs.fill.note_freed.Tie as tie
 

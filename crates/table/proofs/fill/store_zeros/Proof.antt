@@ -1,9 +1,9 @@
 -- `store_zeros`: the loop has stored j of k zeros (`Storing`).
 use borrow.Author.Needs.{needs}
-use Rattle.table.specs.Code.{fills}
+use Rattle.table.specs.Exits.{fills}
 use Prim.Native.Nat.{_-_}
 use lib.ListN.{replicate}
-use Rattle.image.specs.Code.{Storing}
+use Rattle.image.specs.Storing.{Storing}
 use Rattle.table.proofs.fill.store_zeros.Statement.{statement}
 use Rattle.table.proofs.fill.store_zeros.Tie as tie
 

@@ -1,6 +1,6 @@
 -- `free_slot`: a search around the table (`Rounding`).
 use borrow.Author.Needs.{needs}
-use Rattle.table.specs.Code.{finds}
+use Rattle.table.specs.Exits.{finds}
 use Prim.Native.Nat.{_-_}
 use Rattle.search.specs.Ring.{Rounding}
 use Rattle.table.specs.Find.{freeAt}

@@ -1,6 +1,6 @@
 -- `ring`: each way out is a law.
 use borrow.Author.Needs.{needs}
-use Rattle.table.specs.Code.{finds}
+use Rattle.table.specs.Exits.{finds}
 use Rattle.table.proofs.find.ring.Statement.{statement}
 use Rattle.table.proofs.find.ring.Tie as tie
 

@@ -1,6 +1,6 @@
 -- `room_for_one`: each way out is a law.
 use borrow.Author.Needs.{needs}
-use Rattle.table.specs.Code.{finds}
+use Rattle.table.specs.Exits.{finds}
 use Rattle.table.proofs.find.room_for_one.Statement.{statement}
 use Rattle.table.proofs.find.room_for_one.Tie as tie
 
@@ -8,5 +8,6 @@ pub room-for-one-spec : {M : Type 1} → statement M
 room-for-one-spec =
     tie.close
     (tie.spec
+    (λ c κs. search (needs, finds))
     (λ c κs. search (needs, finds))
     (λ c. search (needs, finds)))

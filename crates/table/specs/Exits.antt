@@ -1,0 +1,284 @@
+-- The ways out of this crate's functions: a law for each, and for each call.
+use Prim.Native.Nat.{ℕ, suc, _+_, _-_, _≤_, _<_}
+use mathlib.Core.Path.{_≡_, refl, sym, _∙_}
+use mathlib.Core.Bool.{Bool, true, false, cond, _&&_}
+use mathlib.Core.List.{List, _∷_}
+use mathlib.Core.Logic.{⊎-elim}
+use lib.ListN.{length, set, replicate, length-replicate}
+use lib.Dec.{leb, ltb, eqb}
+use borrow.Author.Tests.{lt-ltb, le-ltb}
+use native.Mathlib.Omega.{arith}
+use native.Mathlib.Nat.{eq-or-lt-of-le}
+use mir.Val.{Fits}
+use mir.Syntax.{w64}
+use Rattle.search.specs.Bools.{cases}
+use Rattle.search.specs.First.{first, firstOf, loops as firsts}
+use Rattle.search.specs.Some.{some, some-at, none-some}
+use Rattle.search.specs.Count.{count}
+use Rattle.search.specs.Ring.{firstRound, ring-ahead, ring-round, round-found, round-one, round-another, round-alone, rounds}
+use Rattle.search.specs.declared.Found.{Found}
+use Rattle.search.specs.declared.Found.the-variants.{At, Nothing}
+use Rattle.image.specs.declared.header.Header.{Header}
+use Rattle.image.specs.Layout.{contentsAt, filledKind, payloadKind, header}
+use Rattle.image.specs.Line.{headerLine, stored, storeLine}
+use Rattle.image.specs.Name.{Name, nameAt, sameName}
+use Rattle.image.specs.Requires.{Slot, slot-of, slot-header, slot-after}
+use Rattle.image.specs.Laws.{area-top}
+use Rattle.image.specs.Storing.{storing-end}
+use Rattle.transient.specs.declared.sizes.Sizes.{Sizes}
+use Rattle.transient.specs.Layout.{lastTaken, retiredIn, setLast, setRetired, setWaiting}
+use Rattle.transient.specs.Store.{Table, table}
+use Rattle.transient.specs.Requires.{Entered, note-after, note-head, note-slot, shaped-slot, slot-note, slot-working, slot-head, entered-head}
+use Rattle.transient.specs.Clearing.{emptying-start, emptying-next}
+use Rattle.table.specs.declared.find.Lookup.the-variants.{Later, Live, Absent}
+use Rattle.table.specs.Find.{newerAt, newer, liveAt, liveSlot, lookup, freeAt, room}
+use Rattle.table.specs.Fill.{setValue, filledSlot, joined, taken}
+use Rattle.table.specs.Requires.{RingStart, sooner, ring-of, ring-header, shaped-in, slot-value, value-slot, header-after}
+use Rattle.table.specs.Laws.{key-then-value}
+
+-- ---- newer, live: the name is the last part of the tests, and the first that is looked at
+and-no : (a : Bool) → false ≡ a && false
+and-no true = refl
+and-no false = refl
+
+and-yes : (a : Bool) → a ≡ a && true
+and-yes true = refl
+and-yes false = refl
+
+module _ (z : Sizes) (wk : List ℕ) (name : Name) (e s : ℕ) {k : Bool} (q : k ≡ sameName (nameAt wk (z .n) (z .w) s) name) where
+  pub newer-other : k ≡ false → false ≡ newerAt z wk name e s
+  unfolding newerAt
+  newer-other d = rw (← q, d) (and-no (filledKind (header wk s .kind)))
+
+  module _ {h : Header} {f : Bool} (d : k ≡ true) (at : h ≡ header wk s) (fl : f ≡ filledKind (h .kind)) where
+    pub newer-free : f ≡ false → false ≡ newerAt z wk name e s
+    unfolding newerAt
+    newer-free t = rw (← at, ← fl, t)
+
+    pub newer-epoch : f ≡ true → ltb e (h .epoch) ≡ newerAt z wk name e s
+    unfolding newerAt
+    newer-epoch t = rw (← at, ← fl, t, ← q, d)
+
+module _ (z : Sizes) (tb : Table) (name : Name) (s : ℕ) {k : Bool} (q : k ≡ sameName (nameAt (tb .working) (z .n) (z .w) s) name) where
+  pub live-other : k ≡ false → false ≡ liveAt z tb name s
+  unfolding liveAt
+  live-other d =
+      rw (← q, d, ← and-no (eqb (retiredIn z (tb .transient) s) 0))
+      (and-no (payloadKind (header (tb .working) s .kind)))
+
+  module _ {h : Header} {p : Bool} (d : k ≡ true) (at : h ≡ header (tb .working) s) (pl : p ≡ payloadKind (h .kind)) where
+    pub live-not : p ≡ false → false ≡ liveAt z tb name s
+    unfolding liveAt
+    live-not e = rw (← at, ← pl, e)
+
+    pub live-retired : {r : ℕ} → p ≡ true → r ≡ retiredIn z (tb .transient) s → eqb r 0 ≡ liveAt z tb name s
+    unfolding liveAt
+    live-retired {r} e re = rw (← at, ← pl, e, ← re, ← q, d) (and-yes (eqb r 0))
+
+pub live-slot : (z : Sizes) (tb : Table) (name : Name) {r : Found} → r ≡ firstOf (liveAt z tb name) (z .n) → r ≡ liveSlot z tb name
+unfolding liveSlot
+live-slot z tb name e = e
+
+-- ---- one walk up for both: none below s is newer, and `live` is the first live one below s, or n
+module _ (n s live : ℕ) {b q : Bool} (e : b ≡ q) where
+  pub sooner-old : b ≡ true → live < n → live ≡ sooner q n s live
+  unfolding sooner
+  sooner-old t h = rw (← e, t, lt-ltb live n h)
+
+  pub sooner-here : b ≡ true → n ≤ live → s ≡ sooner q n s live
+  unfolding sooner
+  sooner-here t h = rw (← e, t, le-ltb live n h)
+
+  pub sooner-not : b ≡ false → live ≡ sooner q n s live
+  unfolding sooner
+  sooner-not t = rw (← e, t)
+
+sooner-kept : (b : Bool) (n s live : ℕ) → ltb live n ≡ true → sooner b n s live ≡ live
+unfolding sooner
+sooner-kept true n s live e = rw e
+sooner-kept false n s live e = refl
+
+pub record Ascending (p q : ℕ → Bool) (n s live : ℕ) : Type 0 where
+  pub low : s ≤ n
+  pub none : (k : ℕ) → k < s → p k ≡ false
+  pub so-far : first q 0 n ≡ cond (ltb live n) live (first q s (n - s))
+
+pub ascending-start : (p q : ℕ → Bool) (n : ℕ) → Ascending p q n 0 n
+ascending-start p q n =
+    let e : n - 0 ≡ n = omega arith in
+    record { low = omega arith; none = λ k h. absurd (omega arith); so-far = rw (le-ltb n n (omega arith), e) }
+
+module _ {p q : ℕ → Bool} {n s live : ℕ} {a : Bool} (y : Ascending p q n s live) (h : s < n) (na : a ≡ p s) where
+  ascending-newer : a ≡ true → some p n ≡ true
+  ascending-newer t = some-at p n s h (sym na ∙ t)
+
+  module _ (live′ : ℕ) (m : live′ ≡ sooner (q s) n s live) where
+    first-kept : ltb live n ≡ true → first q 0 n ≡ cond (ltb live′ n) live′ (first q (s + 1) (n - (s + 1)))
+    first-kept t =
+        let v : live′ ≡ live = m ∙ sooner-kept (q s) n s live t in
+        let u : first q 0 n ≡ live = rw t at (y .so-far) in
+        rw (v, t) u
+
+    first-here : ltb live n ≡ false → q s ≡ true → first q 0 n ≡ cond (ltb live′ n) live′ (first q (s + 1) (n - (s + 1)))
+    unfolding first sooner
+    first-here f x =
+        let e : n - s ≡ suc (n - (s + 1)) = omega arith in
+        let v : live′ ≡ s = rw (x, f) at m in
+        let u : first q 0 n ≡ s = rw (f, e, x) at (y .so-far) in
+        rw (v, lt-ltb s n h) u
+
+    first-later : ltb live n ≡ false → q s ≡ false → first q 0 n ≡ cond (ltb live′ n) live′ (first q (s + 1) (n - (s + 1)))
+    unfolding first sooner
+    first-later f x =
+        let e : n - s ≡ suc (n - (s + 1)) = omega arith in
+        let v : live′ ≡ live = rw x at m in
+        let u : first q 0 n ≡ first q (s + 1) (n - (s + 1)) = rw (f, e, x) at (y .so-far) in
+        rw (v, f) u
+
+  pub ascending-next : {live′ : ℕ} → a ≡ false → live′ ≡ sooner (q s) n s live → Ascending p q n (s + 1) live′
+  ascending-next {live′} nf m =
+      record {
+        low = omega arith;
+        none = λ k l.
+            ⊎-elim (λ (e : k ≡ s). rw e (sym na ∙ nf)) (λ (u : k < s). y .none k u) (eq-or-lt-of-le (omega arith));
+        so-far =
+            ⊎-elim
+            (λ (t : ltb live n ≡ true). first-kept live′ m t)
+            (λ (f : ltb live n ≡ false).
+            ⊎-elim
+            (λ (x : q s ≡ true). first-here live′ m f x)
+            (λ (x : q s ≡ false). first-later live′ m f x)
+            (cases (q s)))
+            (cases (ltb live n));
+      }
+
+module _ (z : Sizes) (tb : Table) (name : Name) (e : ℕ) {s live : ℕ} (y : Ascending (newerAt z (tb .working) name e) (liveAt z tb name) (z .n) s live) where
+  pub lookup-later : {a : Bool} → s < z .n → a ≡ newerAt z (tb .working) name e s → a ≡ true → Later ≡ lookup z tb name e
+  unfolding lookup newer
+  lookup-later h q t = rw (ascending-newer y h q t)
+
+  none-newer : z .n ≤ s → newer z (tb .working) name e ≡ false
+  unfolding newer
+  none-newer h = none-some (newerAt z (tb .working) name e) (z .n) (λ k l. y .none k (omega (arith, y .low)))
+
+  live-is : live < z .n → first (liveAt z tb name) 0 (z .n) ≡ live
+  live-is l = let u = y .so-far in rw (lt-ltb live (z .n) l) at u
+
+  none-live : z .n ≤ s → z .n ≤ live → first (liveAt z tb name) 0 (z .n) ≡ z .n
+  unfolding first
+  none-live h l =
+      let a : z .n - s ≡ 0 = omega arith in
+      let b : s ≡ z .n = omega (arith, y .low) in
+      let u : first (liveAt z tb name) 0 (z .n) ≡ s = rw (le-ltb live (z .n) l, a) at (y .so-far) in
+      u ∙ b
+
+  pub lookup-live : z .n ≤ s → live < z .n → Live live ≡ lookup z tb name e
+  unfolding lookup liveSlot firstOf
+  lookup-live h l = rw (none-newer h, live-is l, lt-ltb live (z .n) l)
+
+  pub lookup-absent : z .n ≤ s → z .n ≤ live → Absent ≡ lookup z tb name e
+  unfolding lookup liveSlot firstOf
+  lookup-absent h l = rw (none-newer h, none-live h l, le-ltb (z .n) (z .n) (omega arith))
+
+-- ---- free slots
+module _ (wk : List ℕ) (s : ℕ) {h : Header} {f : Bool} (at : h ≡ header wk s) (fl : f ≡ filledKind (h .kind)) where
+  pub free-no : f ≡ true → false ≡ freeAt wk s
+  unfolding freeAt
+  free-no t = rw (← at, ← fl, t)
+
+  pub free-yes : f ≡ false → true ≡ freeAt wk s
+  unfolding freeAt
+  free-yes t = rw (← at, ← fl, t)
+
+module _ {wk tr : List ℕ} {z : Sizes} {last : ℕ} (y : Entered wk tr z) (la : last ≡ lastTaken tr) where
+  pub rooms-all : RingStart wk (z .n) last (z .n)
+  rooms-all =
+      record {
+        long = omega (arith, y .shaped .working .long);
+        slots-hi = y .shaped .working .sizes .slots-hi;
+        from = omega (arith, la, y .last);
+        few = omega arith;
+      }
+
+  module _ {f : Found} (e : f ≡ firstRound (freeAt wk) (z .n) last (z .n)) where
+    round-is : f ≡ firstRound (freeAt wk) (z .n) (lastTaken tr) (z .n)
+    round-is = rw la at e
+
+    none-free : (k : ℕ) → f ≡ Nothing → Nothing ≡ room z (table wk tr) k
+    unfolding room
+    none-free k a =
+        ⊎-elim
+        (λ (t : leb k (count (freeAt wk) (z .n)) ≡ true). rw (t, ← round-is, a))
+        (λ (u : leb k (count (freeAt wk) (z .n)) ≡ false). rw u)
+        (cases (leb k (count (freeAt wk) (z .n))))
+
+    one-free : {s : ℕ} → f ≡ At s → f ≡ room z (table wk tr) 1
+    unfolding room
+    one-free {s} a = rw (round-one (freeAt wk) (z .n) (lastTaken tr) s (y .last) (sym round-is ∙ a)) round-is
+
+    pub room-one : f ≡ room z (table wk tr) 1
+    room-one = go f refl
+      where
+        go : (g : Found) → f ≡ g → f ≡ room z (table wk tr) 1
+        go (At s) q = one-free q
+        go Nothing q = q ∙ none-free 1 q
+
+    pub room-none : f ≡ Nothing → Nothing ≡ room z (table wk tr) 2
+    room-none a = none-free 2 a
+
+    module _ {s : ℕ} (a : f ≡ At s) where
+      free-s : (s < z .n) × (freeAt wk s ≡ true)
+      free-s = round-found (freeAt wk) (z .n) (lastTaken tr) (z .n) s (y .last) (omega arith) (sym round-is ∙ a)
+
+      pub rooms-rest : RingStart wk (z .n) s (z .n - 1)
+      rooms-rest = record { long = rooms-all .long; slots-hi = rooms-all .slots-hi; from = free-s .0; few = omega arith }
+
+      module _ {g : Found} (o : g ≡ firstRound (freeAt wk) (z .n) s (z .n - 1)) where
+        pub room-two : {u : ℕ} → g ≡ At u → At s ≡ room z (table wk tr) 2
+        unfolding room
+        room-two {u} b = rw (round-another (freeAt wk) (z .n) s u (free-s .0) (free-s .1) (sym o ∙ b), ← round-is, a)
+
+        pub room-alone : g ≡ Nothing → Nothing ≡ room z (table wk tr) 2
+        unfolding room
+        room-alone b = rw (round-alone (freeAt wk) (z .n) s (free-s .0) (free-s .1) (sym o ∙ b))
+
+-- ---- filling
+module _ {l : List ℕ} {n w s b : ℕ} (y : Slot l n w s) (at : b ≡ contentsAt n w s) where
+  pub key-in : b < length l
+  key-in = omega (arith, y .room, y .sized .long, y .sized .sizes .width-lo)
+
+  pub value-fits : Fits w64 (b + 1)
+  value-fits = omega (arith, y .room, area-top (y .sized .sizes), y .sized .sizes .slots-hi)
+
+  pub value-room : b + 1 + (w - 1) ≤ length l
+  value-room = omega (arith, y .room, y .sized .long, y .sized .sizes .width-lo)
+
+pub key-set : (l : List ℕ) (key : ℕ) {b i : ℕ} → b ≡ i → set l b key ≡ set l i key
+key-set l key at = rw at
+
+pub value-set : (z : Sizes) (l : List ℕ) (s : ℕ) (value : List ℕ) {b : ℕ} {l′ : List ℕ} → length value ≡ z .w - 1 → b ≡ contentsAt (z .n) (z .w) s
+    → l′ ≡ stored l (b + 1) value (z .w - 1) → l′ ≡ setValue z l s value
+unfolding setValue storeLine
+value-set z l s value long at e = rw (long, ← at) e
+
+module _ (z : Sizes) (l : List ℕ) (s key : ℕ) (h : Header) {a b c : List ℕ} (first : a ≡ set l (contentsAt (z .n) (z .w) s) key) (last : c ≡ storeLine b (headerLine s h)) where
+  pub filled-value : (value : List ℕ) → b ≡ setValue z a s value → c ≡ filledSlot z l s h (key ∷ value)
+  unfolding filledSlot
+  filled-value value e = rw (last, e, first, key-then-value z l s value key)
+
+  pub filled-zeros : {i : ℕ} → i ≡ contentsAt (z .n) (z .w) s → b ≡ stored a (i + 1) (replicate (z .w - 1) 0) (z .w - 1) → c ≡ filledSlot z l s h (key ∷ replicate (z .w - 1) 0)
+  filled-zeros at e = filled-value (replicate (z .w - 1) 0) (value-set z a s (replicate (z .w - 1) 0) (length-replicate (z .w - 1) 0) at e)
+
+-- ---- notes
+module _ (z : Sizes) (tr : List ℕ) (e s : ℕ) where
+  pub joined-done : {b c : List ℕ} → b ≡ setRetired z tr s 0 → c ≡ setWaiting z b e s → c ≡ joined z tr e s
+  unfolding joined
+  joined-done r u = rw (u, r)
+
+  pub taken-done : {m : ℕ} {a b c : List ℕ} → m ≡ s → a ≡ setLast tr m → b ≡ setRetired z a s 0 → c ≡ setWaiting z b e s → c ≡ taken z tr e s
+  unfolding taken joined
+  taken-done p q r u = rw (u, r, q, p)
+
+pub ruleset finds = (firsts, rounds, shaped-slot, shaped-in, slot-note, slot-working, slot-head, slot-header, newer-other, newer-free, newer-epoch, live-other, live-not, live-retired, live-slot, sooner-old, sooner-here, sooner-not, ascending-start, ascending-next, lookup-later, lookup-live, lookup-absent, free-no, free-yes, ring-ahead, ring-round, ring-of, ring-header, entered-head, rooms-all, rooms-rest, room-one, room-none, room-two, room-alone)
+
+pub ruleset fills = (emptying-start, emptying-next, storing-end, slot-of, key-in, value-fits, value-room, key-set, value-set, slot-value, value-slot, slot-after, header-after, filled-value, filled-zeros, note-head, note-slot, note-after, taken-done, joined-done)
