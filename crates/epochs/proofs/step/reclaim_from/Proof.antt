@@ -1,6 +1,6 @@
 -- `reclaim_from`: each way out is a law.
 use borrow.Author.Needs.{needs}
-use Rattle.epochs.specs.Code.{lines, steps, going-due}
+use Rattle.epochs.specs.StepExits.{lines, steps, going-due}
 use Rattle.epochs.proofs.step.reclaim_from.Statement.{statement}
 use Rattle.epochs.proofs.step.reclaim_from.Tie as tie
 

@@ -1,6 +1,6 @@
 -- `sync`: each way out is a law.
 use borrow.Author.Needs.{needs}
-use Rattle.epochs.specs.Calls.{syncs, sync-syncable}
+use Rattle.epochs.specs.SyncExits.{syncs, sync-syncable}
 use Rattle.epochs.proofs.syncing.sync.Statement.{statement}
 use Rattle.epochs.proofs.syncing.sync.Tie as tie
 

@@ -1,12 +1,12 @@
--- `advance_at`: each way out is a law.
+-- `advance_sized`: each way out is a law.
 use borrow.Author.Needs.{needs}
-use Rattle.epochs.specs.Entry.{checks}
+use Rattle.epochs.specs.AdvanceExits.{checks}
 use Rattle.epochs.specs.Calls.{advancing}
-use Rattle.epochs.proofs.advancing.advance_at.Statement.{statement}
-use Rattle.epochs.proofs.advancing.advance_at.Tie as tie
+use Rattle.epochs.proofs.advancing.advance_sized.Statement.{statement}
+use Rattle.epochs.proofs.advancing.advance_sized.Tie as tie
 
-pub advance-at-spec : {M : Type 1} → statement M
-advance-at-spec =
+pub advance-sized-spec : {M : Type 1} → statement M
+advance-sized-spec =
     tie.close
     (tie.spec
     (λ c κs. search (needs, checks, advancing))
