@@ -9,7 +9,6 @@ held-open-spec =
     tie.close
     (tie.spec
     (λ c κs. search (needs, checks))
-    (λ c κs. search (needs, checks))
     (λ c. search (needs, checks))
     (λ c κs. search (needs, checks))
     (λ c. search (needs, checks)))

@@ -8,5 +8,6 @@ pub underway-spec : {M : Type 1} → statement M
 underway-spec =
     tie.close
     (tie.spec
+    (λ c κs. search (needs, checks))
     (λ c. search (needs, checks))
     (λ c. search (needs, checks)))

@@ -10,6 +10,7 @@ check-ready-spec =
     (tie.spec
     (λ c κs. search (needs, checks))
     (λ c. search (needs, checks))
+    (λ c. search (needs, checks))
     (λ c κs. search (needs, checks))
     (λ c. search (needs, checks))
     (λ c. search (needs, checks)))
