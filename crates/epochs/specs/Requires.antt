@@ -1,14 +1,13 @@
--- What functions inside require: a store at a step of an advance, from a slot on, or where a sync may begin.
+-- What functions inside require: a store at a step of an advance, from a slot on.
 use Prim.Native.Nat.{ℕ, _+_, _*_, _≤_, _<_}
 use mathlib.Core.List.{List}
 use lib.ListN.{length}
 use mir.Val.{Fits}
 use mir.Syntax.{w32}
 use native.Mathlib.Omega.{arith}
-use Rattle.image.specs.Layout.{mostSlots, mostNumber, slotsOf}
+use Rattle.image.specs.Layout.{mostSlots, mostNumber}
 use Rattle.image.specs.Requires.{Sized, Slots, HeaderFits, slot, slot-header}
 use Rattle.transient.specs.declared.sizes.Sizes.{Sizes}
-use Rattle.transient.specs.Layout.{placeSlot}
 use Rattle.transient.specs.Requires.{Notes, NoteOf, Shaped, ShapedSlot, EnteredWith, note-of, shaped-slot}
 
 -- from slot p on in the waiting list of c - 1
@@ -27,11 +26,6 @@ pub record Advancing (wk l tr : List ℕ) (z : Sizes) (c : ℕ) : Type 0 where
 pub record Going (wk l tr : List ℕ) (z : Sizes) (c p : ℕ) : Type 0 where
   pub advancing : Advancing wk l tr z c
   pub within : p < z .n
-
--- where advance calls can be counted
-pub record Syncable (wk tr : List ℕ) : Type 0 where
-  pub slots-hi : slotsOf wk ≤ mostSlots
-  pub place : placeSlot tr < slotsOf wk
 
 -- ---- how they are made
 pub slots-first : {wk l : List ℕ} {n w s : ℕ} → Slots wk l n w s → HeaderFits wk n s

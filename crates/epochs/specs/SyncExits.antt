@@ -21,7 +21,7 @@ use Rattle.transient.specs.declared.sizes.Sizes.{Sizes}
 use Rattle.transient.specs.Layout.{placeSlot}
 use Rattle.transient.specs.Store.{Store, store, table, sizesOf, Outcome, outcome}
 use Rattle.transient.specs.Entry.{entryCheck}
-use Rattle.transient.specs.Requires.{entered-notes, entered-front}
+use Rattle.transient.specs.Requires.{EnteredWith, entered-notes, entered-front}
 use Rattle.transient.specs.Passed.{entry-with}
 use Rattle.epochs.specs.declared.Advance.{Advance}
 use Rattle.epochs.specs.declared.Advance.the-variants.{WentOn, Ticked, Declined}
@@ -29,7 +29,6 @@ use Rattle.epochs.specs.declared.Sync.{Sync}
 use Rattle.epochs.specs.declared.Sync.the-variants as sync-reply
 use Rattle.epochs.specs.Advance.{advance}
 use Rattle.epochs.specs.Sync.{anyOpen, syncCheck, advances, mostLines, sync}
-use Rattle.epochs.specs.Requires.{Syncable}
 use Rattle.epochs.specs.Left.{Moves, advance-moves, budget, budget-top, budget-low, budget-on, budget-tick}
 
 -- ---- refusals 14 and 15
@@ -75,14 +74,15 @@ pub record Syncing (wk₀ l₀ tr₀ : List ℕ) (ticks lines : ℕ) (wk l tr : 
   pub few : lines + more ≤ 2 * mostLines mostSlots
   pub same : advances (2 * mostLines (slotsOf wk₀)) 2 0 (store wk₀ l₀ tr₀) ≡ advances more ticks lines (store wk l tr)
 
-pub sync-start : (wk l tr : List ℕ) → Syncable wk tr → Syncing wk l tr 2 0 wk l tr
-sync-start wk l tr y =
+pub sync-start : {wk l tr : List ℕ} → EnteredWith wk l tr (sizesOf (table wk tr)) → Syncing wk l tr 2 0 wk l tr
+unfolding sizesOf
+sync-start {wk} {l} {tr} y =
     record {
       more = 2 * mostLines (slotsOf wk);
       longs = record { working = refl; persistent = refl; transient = refl };
-      place = y .place;
+      place = y .entered .place;
       enough = budget-top (table wk tr);
-      few = omega (arith, y .slots-hi);
+      few = omega (arith, y .entered .shaped .notes .slots-hi);
       same = refl;
     }
 
@@ -178,12 +178,10 @@ module _ (wk l tr : List ℕ) {k : Check} (ce : k ≡ syncCheck (store wk l tr))
     unfolding sync
     sync-goes e = rw (← ce, a) e
 
-    pub sync-syncable : Syncable wk tr
-    unfolding syncCheck sizesOf
-    sync-syncable =
-        let y = entry-with wk l tr (both-accepted (entryCheck (store wk l tr)) _ (sym ce ∙ a) .0) .entered in
-        record { slots-hi = y .shaped .notes .slots-hi; place = y .place }
+    pub sync-entered : EnteredWith wk l tr (sizesOf (table wk tr))
+    unfolding syncCheck
+    sync-entered = entry-with wk l tr (both-accepted (entryCheck (store wk l tr)) _ (sym ce ∙ a) .0)
 
 pub ruleset checks = (tests, entered-notes, entered-front, ready-open, ready-last, ready-fine, check-refused, check-ready)
 
-pub ruleset syncs = (sync-start, sync-on, sync-tick, sync-declined, sync-done, sync-fits, lowers-on, lowers-tick, sync-refused, sync-goes, sync-syncable, long-working, long-persistent, long-transient)
+pub ruleset syncs = (sync-start, sync-on, sync-tick, sync-declined, sync-done, sync-fits, lowers-on, lowers-tick, sync-refused, sync-goes, sync-entered, long-working, long-persistent, long-transient)
