@@ -2,249 +2,235 @@
 -- sync that is accepted never declines in the middle: with no operation open each of its advance calls is accepted, and the
 -- bound on their number is never used up, so it reports done.
 use Prim.Native.Nat.{ℕ, zero, suc, _+_, _*_, _-_, _≤_, _<_}
-use mathlib.Core.Path.{_≡_, refl, _∙_}
-use mathlib.Core.Bool.{Bool, true, false, not, cond, _&&_}
-use mathlib.Core.Logic.{inl}
+use mathlib.Core.Path.{_≡_, refl, ap, _∙_}
+use mathlib.Core.Bool.{Bool, true, false, not, _&&_, _||_}
+use mathlib.Core.Logic.{inl, inr}
 use mathlib.Core.List.{List}
 use lib.ListN.{length, getD}
-use lib.Dec.{ltb, eqb}
+use lib.Dec.{leb, ltb, eqb}
 use borrow.Author.Tests.{le-leb, lt-ltb, eq-eqb, ne-eqb, eqb-true, ltb-false, not-false}
 use native.Mathlib.Omega.{arith}
 use Rattle.search.specs.Bools.{and-left, and-right, and-both}
 use Rattle.search.specs.Some.{some, some-none, none-some, at-every}
-use Rattle.search.specs.declared.Found.the-variants.{At}
 use Rattle.reply.specs.declared.Check.{Check}
 use Rattle.reply.specs.declared.Check.the-variants.{Accepted, Refused}
 use Rattle.reply.specs.declared.Refusal.{Refusal}
-use Rattle.reply.specs.declared.Refusal.the-variants.{Sizes, Clock, StillOpen, LastEpoch}
-use Rattle.reply.specs.Refusals.{refuse, andThen, not-refused, both-accepted}
-use Rattle.image.specs.Layout.{slotsOf, widthOf, clockOf, shapeOk, clockOk}
-use Rattle.image.specs.Laws.{length-setHeader, front-setHeader, length-setContents, front-setContents, length-setClock, word-setClock, clock-same}
-use Rattle.transient.specs.Store.{Store, store}
-use Rattle.transient.specs.Layout.{lastTaken, nextUidOf, placePhase, placeSlot, openEpoch, threadsOk, setPlace}
-use Rattle.transient.specs.Laws.{length-setRetired, length-setPlace, length-emptied, word-setRetired, word-setPlace, word-emptied, slot-set, notes-after}
-use Rattle.transient.specs.Entry.{imagesFit, notesFit, sizesFit, openOk, opensOk, clocksFit, threads, entryCheck}
+use Rattle.reply.specs.declared.Refusal.the-variants.{BadSizes, BadClock, StillOpen, LastEpoch, NoLine}
+use Rattle.reply.specs.Refusals.{refuse, not-refused, both-accepted}
+use Rattle.image.specs.declared.header.Header.{Header}
+use Rattle.image.specs.Layout.{mostNumber, slotsOf, widthOf, clockOf, shapeOk, clockOk}
+use Rattle.image.specs.Line.{headerLine, contentsLine, clockLine, storeLine}
+use Rattle.image.specs.Laws.{length-store, front-past-header, front-past-contents, word-past-clock, clock-same}
+use Rattle.transient.specs.declared.sizes.Sizes.{Sizes}
+use Rattle.transient.specs.Layout.{slotsAt, lastAt, nextUidAt, openAt, headWords, notedSlots, lastTaken, nextUidOf, placeSlot, openEpoch, threadsOk, setPlace}
+use Rattle.transient.specs.Laws.{retired-only, list-only, place-only, slot-set}
+use Rattle.transient.specs.Store.{Store, store, tableOf, sizesOf, Outcome, afterCheck}
+use Rattle.transient.specs.Entry.{imagesFit, notesFit, sizesFit, openOk, opensOk, clocksFit, entryCheck}
+use Rattle.transient.specs.Requires.{EnteredWith, notes-after}
+use Rattle.transient.specs.Passed.{entry-with}
 use Rattle.epochs.specs.declared.Place.{Place}
 use Rattle.epochs.specs.declared.Advance.the-variants.{WentOn, Ticked, Declined}
+use Rattle.epochs.specs.declared.Sync.{Sync}
 use Rattle.epochs.specs.declared.Sync.the-variants as sync-reply
-use Rattle.epochs.specs.Advance.{Stepped, place, placeOf, reclaimed, contentsLine, headerLine, ticking, flushing, step, underway, openBelow, advanceCheck, noted, stepping, advance}
-use Rattle.epochs.specs.Sync.{anyOpen, syncCheck, onward, syncing, judged, mostLines, Synced, sync}
-use Rattle.epochs.specs.WriteBack.{writeBackCheck, copied, written, writeBack}
-use Rattle.epochs.specs.Left.{left-top, left-low, step-goes, Moves, advance-moves}
-use Rattle.epochs.specs.Ways.{every-way}
-use Rattle.epochs.specs.Entry.{Whole, entry-whole}
-use Rattle.epochs.specs.Calls.{budget, budget-tick}
+use Rattle.epochs.specs.Advance.{Stepped, reclaimed, contentsFlushed, headerFlushed, ticking, step, underway, openBelow, advanceCheck, noted, advanceSized, advance}
+use Rattle.epochs.specs.Sync.{anyOpen, syncCheck, byReply, advances, mostLines, sync}
+use Rattle.epochs.specs.WriteBack.{writeBack}
+use Rattle.epochs.specs.Moved.{notedPlace}
+use Rattle.epochs.specs.Ways.{every-way, nextStep, advance-way, back-way}
+use Rattle.epochs.specs.Left.{step-goes, Moves, advance-moves, budget, budget-top, budget-low, budget-on, budget-tick}
 
--- ---- what a step leaves as it was
--- sizes, the words below the place, and the open epochs
-pub record Steady (wk l tr : List ℕ) (t : ℕ) (z : Stepped) : Type 0 where
-  pub working-long : length (z .working) ≡ length wk
-  pub working-front : (j : ℕ) → j < 2 → getD (z .working) j 0 ≡ getD wk j 0
-  pub persistent-long : length (z .persistent) ≡ length l
-  pub persistent-front : (j : ℕ) → j < 2 → getD (z .persistent) j 0 ≡ getD l j 0
-  pub notes-long : length (z .transient) ≡ length tr
-  pub notes-front : (j : ℕ) → j < 2 → getD (z .transient) j 0 ≡ getD tr j 0
-  pub opens : (u : ℕ) → u < t → openEpoch (z .transient) u ≡ openEpoch tr u
+-- ---- what a line leaves of an image: its length and its sizes
+record Alike (l l′ : List ℕ) : Type 0 where
+  long : length l′ ≡ length l
+  slots : slotsOf l′ ≡ slotsOf l
+  width : widthOf l′ ≡ widthOf l
+
+module _ (l : List ℕ) where
+  unchanged : Alike l l
+  unchanged = record { long = refl; slots = refl; width = refl }
+
+  header-alike : (s : ℕ) (h : Header) → Alike l (storeLine l (headerLine s h))
+  header-alike s h = record { long = length-store l _; slots = front-past-header l s 0 h (omega arith); width = front-past-header l s 1 h (omega arith) }
+
+  contents-alike : (n w s : ℕ) (words : List ℕ) → Alike l (storeLine l (contentsLine n w s words))
+  contents-alike n w s words =
+      record { long = length-store l _; slots = front-past-contents l n w s 0 words (omega arith); width = front-past-contents l n w s 1 words (omega arith) }
+
+  clock-alike : (c : ℕ) → Alike l (storeLine l (clockLine c))
+  clock-alike c = record { long = length-store l _; slots = word-past-clock l c 0 (λ q. omega arith); width = word-past-clock l c 1 (λ q. omega arith) }
+
+-- ---- what a step leaves as it was: the sizes, and the notes before the slots' notes
+record Steady (z : Sizes) (st : Store) (x : Stepped) : Type 0 where
+  working : Alike (st .working) (x .store .working)
+  persistent : Alike (st .persistent) (x .store .persistent)
+  long : length (x .store .transient) ≡ length (st .transient)
+  notes : (j : ℕ) → j < headWords + z .t → getD (x .store .transient) j 0 ≡ getD (st .transient) j 0
 
 -- a step goes on with the clocks as they were, or ticks and both are one higher
-pub data Clocked (wk l : List ℕ) (c : ℕ) (z : Stepped) : Type 0 where
-  on : z .reply ≡ WentOn → clockOf (z .working) ≡ clockOf wk → clockOf (z .persistent) ≡ clockOf l → Clocked wk l c z
-  tick : z .reply ≡ Ticked → clockOf (z .working) ≡ c + 1 → clockOf (z .persistent) ≡ c + 1 → Clocked wk l c z
+data Clocked (st : Store) (c : ℕ) (x : Stepped) : Type 0 where
+  on : x .reply ≡ WentOn → clockOf (x .store .working) ≡ clockOf (st .working) → clockOf (x .store .persistent) ≡ clockOf (st .persistent) → Clocked st c x
+  tick : x .reply ≡ Ticked → clockOf (x .store .working) ≡ c + 1 → clockOf (x .store .persistent) ≡ c + 1 → Clocked st c x
 
-pub record Kept (wk l tr : List ℕ) (t c : ℕ) (z : Stepped) : Type 0 where
-  pub steady : Steady wk l tr t z
-  pub clocked : Clocked wk l c z
+record Kept (z : Sizes) (st : Store) (c : ℕ) (x : Stepped) : Type 0 where
+  steady : Steady z st x
+  clocked : Clocked st c x
 
-module _ (wk l tr : List ℕ) (n w t c : ℕ) (long : 3 ≤ length wk) (also : 3 ≤ length l) where
-  tick-kept : Kept wk l tr t c (ticking wk l tr n t c)
-  unfolding ticking
-  tick-kept =
-      record {
-        steady = record {
-          working-long = length-setClock wk (c + 1);
-          working-front = λ j h. word-setClock wk (c + 1) j (λ q. omega arith);
-          persistent-long = length-setClock l (c + 1);
-          persistent-front = λ j h. word-setClock l (c + 1) j (λ q. omega arith);
-          notes-long = length-emptied tr n t (c - 1);
-          notes-front = λ j h. word-emptied tr n t (c - 1) j (inl (omega arith));
-          opens = λ u h. word-emptied tr n t (c - 1) (4 + u) (inl (omega arith));
-        };
-        clocked = tick refl (clock-same wk (c + 1) long) (clock-same l (c + 1) also);
-      }
-
-  -- a line stored into persistent, and a place
-  line-kept : (l′ : List ℕ) (p : Place) → length l′ ≡ length l → ((j : ℕ) → j < 3 → getD l′ j 0 ≡ getD l j 0)
-      → Kept wk l tr t c (record { reply = WentOn; working = wk; persistent = l′; transient = tr; place = p })
-  line-kept l′ p e f =
-      record {
-        steady = record {
-          working-long = refl;
-          working-front = λ j h. refl;
-          persistent-long = e;
-          persistent-front = λ j h. f j (omega arith);
-          notes-long = refl;
-          notes-front = λ j h. refl;
-          opens = λ u h. refl;
-        };
-        clocked = on refl refl (f 2 (omega arith));
-      }
-
-  contents-kept : (s : ℕ) → Kept wk l tr t c (flushing (At s) wk l tr n w t c)
-  unfolding contentsLine
-  contents-kept s = line-kept _ (place 3 s) (length-setContents l n w s _) (λ j h. front-setContents l n w s j _ (omega arith))
-
-  head-kept : (s : ℕ) (p : Place) → Kept wk l tr t c (record { reply = WentOn; working = wk; persistent = headerLine wk l s; transient = tr; place = p })
-  unfolding headerLine
-  head-kept s p = line-kept _ p (length-setHeader l s _) (λ j h. front-setHeader l s j _ h)
-
-  reclaim-kept : (s : ℕ) → Kept wk l tr t c (reclaimed wk l tr n t s)
+module _ (z : Sizes) (st : Store) (c : ℕ) (long : 3 ≤ length (st .working)) (also : 3 ≤ length (st .persistent)) where
+  reclaim-kept : (s : ℕ) → Kept z st c (reclaimed z st s)
   unfolding reclaimed
   reclaim-kept s =
+      let o = retired-only (st .transient) z s 0 in
       record {
-        steady = record {
-          working-long = length-setHeader wk s _;
-          working-front = λ j h. front-setHeader wk s j _ (omega arith);
-          persistent-long = length-setHeader l s _;
-          persistent-front = λ j h. front-setHeader l s j _ (omega arith);
-          notes-long = length-setRetired tr t s 0;
-          notes-front = λ j h. word-setRetired tr t s 0 j (λ q. omega arith);
-          opens = λ u h. word-setRetired tr t s 0 (4 + u) (λ q. omega arith);
-        };
-        clocked = on refl (front-setHeader wk s 2 _ (omega arith)) (front-setHeader l s 2 _ (omega arith));
+        steady = record { working = header-alike (st .working) s _; persistent = header-alike (st .persistent) s _; long = o .long; notes = λ j h. o .words j (inl (omega arith)) };
+        clocked = on refl (front-past-header (st .working) s 2 _ (omega arith)) (front-past-header (st .persistent) s 2 _ (omega arith));
       }
 
-  pub step-kept : (p : Place) → Kept wk l tr t c (step wk l tr n w t c p)
-  step-kept = every-way (Kept wk l tr t c) wk l tr n w t c reclaim-kept contents-kept (λ s. head-kept s _) tick-kept
+  contents-kept : (s : ℕ) → Kept z st c (contentsFlushed z st s)
+  unfolding contentsFlushed
+  contents-kept s =
+      record {
+        steady = record { working = unchanged (st .working); persistent = contents-alike (st .persistent) (z .n) (z .w) s _; long = refl; notes = λ j h. refl };
+        clocked = on refl refl (front-past-contents (st .persistent) (z .n) (z .w) s 2 _ (omega arith));
+      }
+
+  header-kept : (s : ℕ) → Kept z st c (headerFlushed z st s)
+  unfolding headerFlushed
+  header-kept s =
+      record {
+        steady = record { working = unchanged (st .working); persistent = header-alike (st .persistent) s _; long = refl; notes = λ j h. refl };
+        clocked = on refl refl (front-past-header (st .persistent) s 2 _ (omega arith));
+      }
+
+  tick-kept : Kept z st c (ticking z st c)
+  unfolding ticking
+  tick-kept =
+      let o = list-only (st .transient) z (c - 1) in
+      record {
+        steady = record { working = clock-alike (st .working) (c + 1); persistent = clock-alike (st .persistent) (c + 1); long = o .long; notes = λ j h. o .words j (inl (omega arith)) };
+        clocked = tick refl (clock-same (st .working) (c + 1) long) (clock-same (st .persistent) (c + 1) also);
+      }
+
+  step-kept : (p : Place) → Kept z st c (step z st c p)
+  step-kept = every-way (Kept z st c) z st c reclaim-kept contents-kept header-kept tick-kept
 
 -- ---- advance and write-back: a refusal changes nothing
-not-declined : {A : Type 0} {wk l : List ℕ} {c : ℕ} {z : Stepped} {r : Refusal} → Clocked wk l c z → z .reply ≡ Declined r → A
+not-declined : {A : Type 0} {st : Store} {c : ℕ} {x : Stepped} {r : Refusal} → Clocked st c x → x .reply ≡ Declined r → A
 not-declined (on e a b) d = let y : _≡_ {A = ℕ} 0 1 = cc in absurd (omega arith)
 not-declined (tick e a b) d = let y : _≡_ {A = ℕ} 0 1 = cc in absurd (omega arith)
 
+next-kept : (st : Store) → entryCheck st ≡ Accepted → Kept (sizesOf (tableOf st)) st (clockOf (st .working)) (nextStep st)
+unfolding nextStep
+next-kept st e =
+    let y = entry-with (st .working) (st .persistent) (st .transient) e in
+    step-kept _ st _ (omega (arith, y .entered .shaped .working .long)) (omega (arith, y .persistent .long)) (notedPlace (st .transient))
+
 pub advance-keeps : (st : Store) (r : Refusal) → advance st .reply ≡ Declined r → advance st .store ≡ st
-unfolding advance
-advance-keeps st r = go (entryCheck st) refl (advanceCheck (st .transient) (threads st) (clockOf (st .working)))
-  where
-    z : Stepped
-    z = step (st .working) (st .persistent) (st .transient) (slotsOf (st .working)) (widthOf (st .working)) (threads st) (clockOf (st .working)) (placeOf (st .transient))
+advance-keeps st r = advance-way (λ x. x .reply ≡ Declined r → x .store ≡ st) st (λ q d. refl) (λ a b d. not-declined (next-kept st a .clocked) d)
 
-    go : (k : Check) → entryCheck st ≡ k → (j : Check) → stepping (andThen k j) st z .reply ≡ Declined r → stepping (andThen k j) st z .store ≡ st
-    go (Refused q) e j d = refl
-    go Accepted e (Refused q) d = refl
-    go Accepted e Accepted d =
-        let y = entry-whole (st .working) (st .persistent) (st .transient) e .sizing in
-        not-declined (step-kept (st .working) (st .persistent) (st .transient) _ _ _ _ (omega (arith, y .working .long)) (omega (arith, y .persistent .long)) (placeOf (st .transient)) .clocked) d
+taken : {A : Type 0} {r : Refusal} → Accepted ≡ Refused r → A
+taken d = let y : _≡_ {A = ℕ} 0 1 = cc in absurd (omega arith)
 
-pub write-back-keeps : (st : Store) (slot line : ℕ) (r : Refusal) → writeBack st slot line .reply ≡ Refused r → writeBack st slot line .store ≡ st
-unfolding writeBack
-write-back-keeps st slot line r = go (writeBackCheck st slot line)
-  where
-    go : (k : Check) → written k st (copied st slot line) .reply ≡ Refused r → written k st (copied st slot line) .store ≡ st
-    go (Refused q) d = refl
-    go Accepted d = let y : _≡_ {A = ℕ} 0 1 = cc in absurd (omega arith)
+pub write-back-keeps : (st : Store) (slot code : ℕ) (r : Refusal) → writeBack st slot code .reply ≡ Refused r → writeBack st slot code .store ≡ st
+write-back-keeps st slot code r = back-way (λ x. x .reply ≡ Refused r → x .store ≡ st) st slot code (λ q d. refl) (λ d. taken d) (λ d. taken d)
 
 -- ---- a store on which a sync is underway: it passes refusals 1 and 2, nothing is open, and the clock has room for so many ticks
 pub record Quiet (ticks : ℕ) (st : Store) : Type 0 where
   pub entry : entryCheck st ≡ Accepted
-  pub idle : (u : ℕ) → u < threads st → openEpoch (st .transient) u ≡ 0
-  pub room : clockOf (st .working) + ticks ≤ 4000000000
+  pub none-open : (u : ℕ) → u < sizesOf (tableOf st) .t → openEpoch (st .transient) u ≡ 0
+  pub room : clockOf (st .working) + ticks ≤ mostNumber
 
 -- the two tests of the entry check
-entry-says : (st : Store) → entryCheck st ≡ Accepted → (sizesFit (st .working) (st .persistent) (st .transient) ≡ true) × (clocksFit (st .working) (st .persistent) (st .transient) (threads st) ≡ true)
+record Passes (st : Store) : Type 0 where
+  sizes : sizesFit (st .working) (st .persistent) (st .transient) ≡ true
+  clocks : clocksFit (st .working) (st .persistent) (st .transient) (sizesOf (tableOf st) .t) ≡ true
+
+entry-passes : (st : Store) → entryCheck st ≡ Accepted → Passes st
 unfolding entryCheck
-entry-says st a =
+entry-passes st a =
     let fit = sizesFit (st .working) (st .persistent) (st .transient) in
-    let clocks = clocksFit (st .working) (st .persistent) (st .transient) (threads st) in
-    let first = not-refused (not fit) Sizes (refuse (not clocks) Clock Accepted) a in
-    (not-false fit (first .0), not-false clocks (not-refused (not clocks) Clock Accepted (first .1) .0))
+    let clocks = clocksFit (st .working) (st .persistent) (st .transient) (sizesOf (tableOf st) .t) in
+    let first = not-refused (not fit) BadSizes (refuse (not clocks) BadClock Accepted) a in
+    record { sizes = not-false fit (first .0); clocks = not-false clocks (not-refused (not clocks) BadClock Accepted (first .1) .0) }
 
-says-entry : (st : Store) → sizesFit (st .working) (st .persistent) (st .transient) ≡ true → clocksFit (st .working) (st .persistent) (st .transient) (threads st) ≡ true → entryCheck st ≡ Accepted
+passes-entry : {st : Store} → Passes st → entryCheck st ≡ Accepted
 unfolding entryCheck
-says-entry st a b = rw (a, b)
+passes-entry y = rw (y .sizes, y .clocks)
 
--- sizes go by lengths and the front words
-images-same : (wk l wk′ l′ : List ℕ) → length wk′ ≡ length wk → length l′ ≡ length l → ((j : ℕ) → j < 2 → getD wk′ j 0 ≡ getD wk j 0) → ((j : ℕ) → j < 2 → getD l′ j 0 ≡ getD l j 0)
-    → imagesFit wk′ l′ ≡ imagesFit wk l
+images-same : {wk l wk′ l′ : List ℕ} → Alike wk wk′ → Alike l l′ → imagesFit wk′ l′ ≡ imagesFit wk l
 unfolding imagesFit shapeOk
-images-same wk l wk′ l′ a b f g = rw (a, b, f 0 (omega arith), f 1 (omega arith), g 0 (omega arith), g 1 (omega arith))
+images-same a b = rw (a .long, a .slots, a .width, b .long, b .slots, b .width)
 
 -- clocks that agree, in range, with nothing open
-says-clocks : (wk l tr : List ℕ) (t c : ℕ) → clockOf wk ≡ c → clockOf l ≡ c → 2 ≤ c → c ≤ 4000000000 → ((u : ℕ) → u < t → openEpoch tr u ≡ 0) → clocksFit wk l tr t ≡ true
+clocks-fit : (wk l tr : List ℕ) (t c : ℕ) → clockOf wk ≡ c → clockOf l ≡ c → 2 ≤ c → c ≤ mostNumber → ((u : ℕ) → u < t → openEpoch tr u ≡ 0) → clocksFit wk l tr t ≡ true
 unfolding clocksFit clockOk opensOk openOk
-says-clocks wk l tr t c a b lo hi idle =
-    rw (a, b, le-leb 2 c lo, le-leb c 4000000000 hi, eq-eqb c c refl)
-    (at-every (λ u. openOk c (openEpoch tr u)) t (λ u h. rw (idle u h)))
+clocks-fit wk l tr t c a b lo hi none =
+    rw (a, b, le-leb 2 c lo, le-leb c mostNumber hi, eq-eqb c c refl)
+    (at-every (λ u. openOk c (openEpoch tr u)) t (λ u h. rw (none u h)))
 
--- the clocks of an accepted store
-clocks-says : (wk l tr : List ℕ) (t : ℕ) → clocksFit wk l tr t ≡ true → clockOf l ≡ clockOf wk
+clocks-agree : (wk l tr : List ℕ) (t : ℕ) → clocksFit wk l tr t ≡ true → clockOf l ≡ clockOf wk
 unfolding clocksFit
-clocks-says wk l tr t e =
+clocks-agree wk l tr t e =
     let k = clockOk (clockOf wk) in
     let q = eqb (clockOf l) (clockOf wk) in
     eqb-true _ _ (and-left q _ (and-right k _ e))
 
 -- a step noted: refusals 1 and 2 pass again
-module _ (wk l tr : List ℕ) (z : Stepped) (ok : entryCheck (store wk l tr) ≡ Accepted) (s : Steady wk l tr (threads (store wk l tr)) z) (within : z .place .slot < slotsOf wk)
-    (c : ℕ) (clock-w : clockOf (z .working) ≡ c) (clock-l : clockOf (z .persistent) ≡ c) (lo : 2 ≤ c) (hi : c ≤ 4000000000)
-    (idle : (u : ℕ) → u < threads (store wk l tr) → openEpoch tr u ≡ 0) where
-  abbrev tr″ : List ℕ
-  tr″ = setPlace (z .transient) (z .place .phase) (z .place .slot)
+module _ (st : Store) (x : Stepped) (ok : entryCheck st ≡ Accepted) (s : Steady (sizesOf (tableOf st)) st x) (within : x .place .slot < slotsOf (st .working)) (c : ℕ)
+    (clock-w : clockOf (x .store .working) ≡ c) (clock-l : clockOf (x .store .persistent) ≡ c) (lo : 2 ≤ c) (none : (u : ℕ) → u < sizesOf (tableOf st) .t → openEpoch (st .transient) u ≡ 0) where
+  abbrev tr : List ℕ
+  tr = noted x .store .transient
 
-  abbrev nd : Store
-  nd = store (z .working) (z .persistent) tr″
+  long : length tr ≡ length (st .transient)
+  long = place-only (x .store .transient) _ _ .long ∙ s .long
 
-  long : length tr″ ≡ length tr
-  long = length-setPlace (z .transient) (z .place .phase) (z .place .slot) ∙ s .notes-long
+  threads-is : sizesOf (tableOf (noted x .store)) .t ≡ sizesOf (tableOf st) .t
+  unfolding sizesOf
+  threads-is = rw (long, s .working .slots)
 
-  slots-is : slotsOf (z .working) ≡ slotsOf wk
-  slots-is = s .working-front 0 (omega arith)
+  -- the place alone was written
+  slots-is : notedSlots tr ≡ notedSlots (st .transient)
+  slots-is = place-only (x .store .transient) _ _ .words slotsAt (inl (omega arith)) ∙ s .notes slotsAt (omega arith)
 
-  threads-is : threads nd ≡ threads (store wk l tr)
-  threads-is = rw (long, slots-is)
+  last-is : lastTaken tr ≡ lastTaken (st .transient)
+  last-is = place-only (x .store .transient) _ _ .words lastAt (inl (omega arith)) ∙ s .notes lastAt (omega arith)
 
-  whole : Whole wk l tr (slotsOf wk) (widthOf wk) (threads (store wk l tr))
-  whole = entry-whole wk l tr ok
+  uid-is : nextUidOf tr ≡ nextUidOf (st .transient)
+  uid-is = place-only (x .store .transient) _ _ .words nextUidAt (inl (omega arith)) ∙ s .notes nextUidAt (omega arith)
 
-  place-is : placeSlot tr″ ≡ z .place .slot
-  place-is = slot-set (notes-after (s .notes-long) (whole .sizing .notes)) (z .place .phase) (z .place .slot)
+  place-is : placeSlot tr ≡ x .place .slot
+  place-is =
+      let y = entry-with (st .working) (st .persistent) (st .transient) ok .entered .shaped .notes in
+      slot-set (notes-after (s .long) y) (x .place .phase) (x .place .slot)
 
-  last-is : lastTaken tr″ ≡ lastTaken tr
-  last-is = word-setPlace (z .transient) (z .place .phase) (z .place .slot) 0 (λ q. omega arith) (λ q. omega arith) ∙ s .notes-front 0 (omega arith)
+  none-after : (u : ℕ) → u < sizesOf (tableOf (noted x .store)) .t → openEpoch tr u ≡ 0
+  none-after u h =
+      let k : u < sizesOf (tableOf st) .t = rw threads-is at h in
+      place-only (x .store .transient) _ _ .words (openAt u) (inr (omega arith)) ∙ s .notes (openAt u) (omega arith) ∙ none u k
 
-  uid-is : nextUidOf tr″ ≡ nextUidOf tr
-  uid-is = word-setPlace (z .transient) (z .place .phase) (z .place .slot) 1 (λ q. omega arith) (λ q. omega arith) ∙ s .notes-front 1 (omega arith)
-
-  idle-after : (u : ℕ) → u < threads nd → openEpoch tr″ u ≡ 0
-  idle-after u h =
-      let h′ : u < threads (store wk l tr) = omega (arith, threads-is) in
-      word-setPlace (z .transient) (z .place .phase) (z .place .slot) (4 + u) (λ q. omega arith) (λ q. omega arith) ∙ s .opens u h′ ∙ idle u h′
-
-  sizes-after : sizesFit (z .working) (z .persistent) tr″ ≡ true
+  sizes-after : sizesFit (x .store .working) (x .store .persistent) tr ≡ true
   unfolding sizesFit notesFit
   sizes-after =
-      let fit = entry-says (store wk l tr) ok .0 in
-      let images = imagesFit wk l in
-      let threaded = threadsOk (length tr) (slotsOf wk) in
+      let n = slotsOf (st .working) in
+      let fit = entry-passes st ok .sizes in
+      let images = imagesFit (st .working) (st .persistent) in
+      let threaded = threadsOk (length (st .transient)) n in
       let rest = and-right images _ fit in
       let notes = and-right threaded _ rest in
-      let last = ltb (lastTaken tr) (slotsOf wk) in
-      let placed = ltb (placeSlot tr) (slotsOf wk) in
-      rw (
-        images-same wk l (z .working) (z .persistent) (s .working-long) (s .persistent-long) (s .working-front) (s .persistent-front),
-        long,
-        slots-is,
-        last-is,
-        place-is,
-        uid-is,
-      )
+      let slots = eqb (notedSlots (st .transient)) n in
+      let more = and-right slots _ notes in
+      let last = ltb (lastTaken (st .transient)) n in
+      let placed = ltb (placeSlot (st .transient)) n in
+      rw (images-same (s .working) (s .persistent), long, s .working .slots, slots-is, last-is, place-is, uid-is)
       (and-both (and-left images _ fit) (and-both (and-left threaded _ rest)
-      (and-both (and-left last _ notes) (and-both (lt-ltb _ _ within) (and-right placed _ (and-right last _ notes))))))
+      (and-both (and-left slots _ notes) (and-both (and-left last _ more) (and-both (lt-ltb _ _ within) (and-right placed _ (and-right last _ more)))))))
 
-  noted-entry : entryCheck (noted z .store) ≡ Accepted
-  noted-entry = says-entry nd sizes-after (says-clocks (z .working) (z .persistent) tr″ (threads nd) c clock-w clock-l lo hi idle-after)
-
-  pub noted-quiet : (ticks : ℕ) → c + ticks ≤ 4000000000 → Quiet ticks (noted z .store)
-  noted-quiet ticks h = record { entry = noted-entry; idle = idle-after; room = omega (arith, clock-w) }
+  noted-quiet : (ticks : ℕ) → c + ticks ≤ mostNumber → Quiet ticks (noted x .store)
+  noted-quiet ticks h =
+      record {
+        entry = passes-entry (record { sizes = sizes-after; clocks = clocks-fit (x .store .working) (x .store .persistent) tr _ c clock-w clock-l lo (omega arith) none-after });
+        none-open = none-after;
+        room = omega (arith, clock-w);
+      }
 
 -- ---- an advance call of a sync
 pub data Onward (k : ℕ) (st : Store) : Type 0 where
@@ -252,142 +238,108 @@ pub data Onward (k : ℕ) (st : Store) : Type 0 where
   ticked : advance st .reply ≡ Ticked → Quiet k (advance st .store) → Onward k st
 
 -- 14 and 15 pass
-quiet-check : (tr : List ℕ) (t c : ℕ) → 2 ≤ c → c < 4000000000 → ((u : ℕ) → u < t → openEpoch tr u ≡ 0) → advanceCheck tr t c ≡ Accepted
+quiet-check : (z : Sizes) (tr : List ℕ) (c : ℕ) → 2 ≤ c → c < mostNumber → ((u : ℕ) → u < z .t → openEpoch tr u ≡ 0) → advanceCheck z tr c ≡ Accepted
 unfolding advanceCheck openBelow
-quiet-check tr t c lo hi idle =
-    let below = none-some (λ u. eqb (openEpoch tr u + 1) c) t (λ u h. ne-eqb _ c (λ q. omega (arith, idle u h))) in
-    rw (below, ne-eqb c 4000000000 (λ q. omega arith)) (never-held (underway tr))
+quiet-check z tr c lo hi none =
+    let below = none-some (λ u. eqb (openEpoch tr u + 1) c) (z .t) (λ u h. ne-eqb _ c (λ q. omega (arith, none u h))) in
+    rw (below, ne-eqb c mostNumber (λ q. omega arith)) (never-held (underway tr))
   where
     never-held : (b : Bool) → refuse (not b && false) StillOpen Accepted ≡ Accepted
     never-held true = refl
     never-held false = refl
 
-module _ (k : ℕ) (wk l tr : List ℕ) (q : Quiet (suc k) (store wk l tr)) where
-  abbrev st : Store
-  st = store wk l tr
+module _ (k : ℕ) (st : Store) (q : Quiet (suc k) st) where
+  abbrev before : EnteredWith (st .working) (st .persistent) (st .transient) (sizesOf (tableOf st))
+  before = entry-with (st .working) (st .persistent) (st .transient) (q .entry)
 
-  abbrev before : Whole wk l tr (slotsOf wk) (widthOf wk) (threads st)
-  before = entry-whole wk l tr (q .entry)
+  next-is : advance st ≡ noted (nextStep st)
+  unfolding advance advanceSized nextStep
+  next-is = rw (q .entry, quiet-check (sizesOf (tableOf st)) (st .transient) (clockOf (st .working)) (before .entered .clock-lo) (omega (arith, q .room)) (q .none-open))
 
-  abbrev next : Stepped
-  next = step wk l tr (slotsOf wk) (widthOf wk) (threads st) (clockOf wk) (placeOf tr)
+  same : clockOf (st .persistent) ≡ clockOf (st .working)
+  same = clocks-agree (st .working) (st .persistent) (st .transient) _ (entry-passes st (q .entry) .clocks)
 
-  next-is : advance st ≡ noted next
-  unfolding advance
-  next-is = rw (q .entry, quiet-check tr (threads st) (clockOf wk) (before .clock-lo) (omega (arith, q .room)) (q .idle))
+  within : nextStep st .place .slot < slotsOf (st .working)
+  unfolding nextStep sizesOf
+  within = step-goes (sizesOf (tableOf st)) st _ (notedPlace (st .transient)) (before .entered .place) .within
 
-  kept : Kept wk l tr (threads st) (clockOf wk) next
-  kept = step-kept wk l tr _ _ _ _ (omega (arith, before .sizing .working .long)) (omega (arith, before .sizing .persistent .long)) (placeOf tr)
+  after : (d ticks : ℕ) → clockOf (nextStep st .store .working) ≡ d → clockOf (nextStep st .store .persistent) ≡ d → 2 ≤ d → d + ticks ≤ mostNumber → Quiet ticks (advance st .store)
+  after d ticks a b lo hi = rw next-is (noted-quiet st (nextStep st) (q .entry) (next-kept st (q .entry) .steady) within d a b lo (q .none-open) ticks hi)
 
-  same : clockOf l ≡ clockOf wk
-  same = clocks-says wk l tr (threads st) (entry-says st (q .entry) .1)
-
-  after : (d ticks : ℕ) → clockOf (next .working) ≡ d → clockOf (next .persistent) ≡ d → 2 ≤ d → d + ticks ≤ 4000000000 → Quiet ticks (advance st .store)
-  after d ticks a b lo hi =
-      rw next-is
-      (noted-quiet wk l tr next (q .entry) (kept .steady) (step-goes wk l tr _ _ _ _ (placeOf tr) (before .sizing .place) .within) d a b lo (omega arith) (q .idle) ticks hi)
-
-  onward-from : Clocked wk l (clockOf wk) next → Onward k st
-  onward-from (on e a b) = went (rw next-is e) (after (clockOf wk) (suc k) a (b ∙ same) (before .clock-lo) (q .room))
-  onward-from (tick e a b) = ticked (rw next-is e) (after (clockOf wk + 1) k a b (omega (arith, before .clock-lo)) (omega (arith, q .room)))
+  onward-from : Clocked st (clockOf (st .working)) (nextStep st) → Onward k st
+  onward-from (on e a b) = went (rw next-is e) (after (clockOf (st .working)) (suc k) a (b ∙ same) (before .entered .clock-lo) (q .room))
+  onward-from (tick e a b) = ticked (rw next-is e) (after (clockOf (st .working) + 1) k a b (omega (arith, before .entered .clock-lo)) (omega (arith, q .room)))
 
   pub advance-quiet : Onward k st
-  advance-quiet = onward-from (kept .clocked)
+  advance-quiet = onward-from (next-kept st (q .entry) .clocked)
+
+-- the place is one of the table
+pub quiet-place : {ticks : ℕ} {st : Store} → Quiet ticks st → placeSlot (st .transient) < slotsOf (st .working)
+unfolding sizesOf
+quiet-place {st = st} q = entry-with (st .working) (st .persistent) (st .transient) (q .entry) .entered .place
 
 -- ---- sync
--- enough calls are left for so many ticks
-abbrev Enough : ℕ → ℕ → Store → Type 0
-Enough more ticks st = budget (st .working) (st .transient) ticks ≤ more
-
-pub record Done (a : Synced) : Type 0 where
+pub record Done (a : Outcome Sync) : Type 0 where
   pub lines : ℕ
   pub is : a .reply ≡ sync-reply.Done lines
 
-done-now : (more lines : ℕ) (st : Store) → Done (syncing more 0 lines st)
-unfolding syncing
-done-now zero lines st = record { lines = lines; is = refl }
-done-now (suc more) lines st = record { lines = lines; is = refl }
-
-syncing-done : (more ticks lines : ℕ) (st : Store) → Quiet ticks st → Enough more ticks st → Done (syncing more ticks lines st)
-unfolding syncing budget
-syncing-done more zero lines st q e = done-now more lines st
-syncing-done zero (suc k) lines st q e =
-    let p = entry-whole (st .working) (st .persistent) (st .transient) (q .entry) .sizing .place in
-    absurd (omega (arith, left-low (slotsOf (st .working)) (placeSlot (st .transient)) p (placePhase (st .transient))))
-syncing-done (suc more) (suc k) lines st q e =
-    go (advance-quiet k (st .working) (st .persistent) (st .transient) q)
-    (syncing-done more (suc k) (suc lines) (advance st .store)) (syncing-done more k (suc lines) (advance st .store))
+advances-done : (more ticks lines : ℕ) (st : Store) → Quiet ticks st → budget (tableOf st) ticks ≤ more → Done (advances more ticks lines st)
+unfolding advances
+advances-done zero zero lines st q e = record { lines = lines; is = refl }
+advances-done (suc more) zero lines st q e = record { lines = lines; is = refl }
+advances-done zero (suc k) lines st q e = absurd (omega (arith, budget-low (tableOf st) k (quiet-place q)))
+advances-done (suc more) (suc k) lines st q e =
+    go (advance-quiet k st q) (advances-done more (suc k) (suc lines) (advance st .store)) (advances-done more k (suc lines) (advance st .store))
   where
-    moves : Moves (st .working) (st .transient) (advance st)
-    moves = advance-moves (st .working) (st .persistent) (st .transient)
-
     go : Onward k st
-        → (Quiet (suc k) (advance st .store) → Enough more (suc k) (advance st .store) → Done (syncing more (suc k) (suc lines) (advance st .store)))
-        → (Quiet k (advance st .store) → Enough more k (advance st .store) → Done (syncing more k (suc lines) (advance st .store)))
-        → Done (onward (advance st .reply) (syncing more (suc k) (suc lines)) (syncing more k (suc lines)) (advance st .store))
-    go (went r x) a b = rw r (a x (rw (moves .slots) (omega (arith, moves .on r))))
-    go (ticked r x) a b =
-        let m = moves .tick r in
-        rw r (b x (omega (arith, budget-tick (st .working) (st .transient) (advance st .store .working) (advance st .store .transient) k (moves .slots) (m .0) (m .1))))
+        → (Quiet (suc k) (advance st .store) → budget (tableOf (advance st .store)) (suc k) ≤ more → Done (advances more (suc k) (suc lines) (advance st .store)))
+        → (Quiet k (advance st .store) → budget (tableOf (advance st .store)) k ≤ more → Done (advances more k (suc lines) (advance st .store)))
+        → Done (byReply (advance st .reply) (advances more (suc k) (suc lines)) (advances more k (suc lines)) (advance st .store))
+    go (went r x) a b = rw r (a x (omega (arith, budget-on (advance-moves st) k r)))
+    go (ticked r x) a b = rw r (b x (omega (arith, budget-tick (advance-moves st) k r)))
 
 -- refusals 1, 2, 14 and 15 passed
 pub check-quiet : (st : Store) → syncCheck st ≡ Accepted → Quiet 2 st
 unfolding syncCheck anyOpen
 check-quiet st a =
     let both = both-accepted (entryCheck st) _ a in
-    let held = some (λ u. not (eqb (openEpoch (st .transient) u) 0)) (threads st) in
-    let high = ltb 3999999998 (clockOf (st .working)) in
-    let first = not-refused held StillOpen (refuse high LastEpoch Accepted) (both .1) in
-    let top = ltb-false 3999999998 (clockOf (st .working)) (not-refused high LastEpoch Accepted (first .1) .0) in
+    let open-in : ℕ → Bool = λ u. not (eqb (openEpoch (st .transient) u) 0) in
+    let high = ltb (mostNumber - 2) (clockOf (st .working)) in
+    let first = not-refused (some open-in (sizesOf (tableOf st) .t)) StillOpen (refuse high LastEpoch Accepted) (both .1) in
+    let top = ltb-false (mostNumber - 2) (clockOf (st .working)) (not-refused high LastEpoch Accepted (first .1) .0) in
     record {
       entry = both .0;
-      idle = λ u h. eqb-true _ 0 (not-false _ (some-none (λ u. not (eqb (openEpoch (st .transient) u) 0)) (threads st) (first .0) u h));
+      none-open = λ u h. eqb-true _ 0 (not-false _ (some-none open-in (sizesOf (tableOf st) .t) (first .0) u h));
       room = omega arith;
     }
 
 -- an accepted sync reports done
 pub sync-done : (st : Store) → syncCheck st ≡ Accepted → Done (sync st)
-unfolding sync budget
-sync-done st a =
-    let wk = st .working in
-    let tr = st .transient in
-    rw a (syncing-done (2 * mostLines (slotsOf wk)) 2 0 st (check-quiet st a) (omega (arith, left-top (slotsOf wk) (placeSlot tr) (placePhase tr))))
+unfolding sync
+sync-done st a = rw a (advances-done (2 * mostLines (slotsOf (st .working))) 2 0 st (check-quiet st a) (budget-top (tableOf st)))
 
 -- .. so a sync that declines has changed nothing
 pub sync-keeps : (st : Store) (r : Refusal) → sync st .reply ≡ sync-reply.Declined r → sync st .store ≡ st
 unfolding sync
 sync-keeps st r d = go (syncCheck st) refl
   where
-    go : (k : Check) → syncCheck st ≡ k → judged k st .store ≡ st
+    go : (k : Check) → syncCheck st ≡ k → afterCheck k sync-reply.Declined st (advances (2 * mostLines (slotsOf (st .working))) 2 0 st) .store ≡ st
     go (Refused q) e = refl
     go Accepted e = let f = sync-done st e .is in let z : _≡_ {A = ℕ} 0 1 = cc in absurd (omega arith)
 
--- ---- lines that the memory writes back in the middle of a sync do not disturb it
-entry-same : (wk l l′ tr : List ℕ) → length l′ ≡ length l → ((j : ℕ) → j < 3 → getD l′ j 0 ≡ getD l j 0) → entryCheck (store wk l′ tr) ≡ entryCheck (store wk l tr)
+-- ---- lines that the memory writes back in the middle of a sync do not disturb it: working and notes stay
+back-entry : (wk l l′ tr : List ℕ) → Alike l l′ → clockOf l′ ≡ clockOf l → entryCheck (store wk l′ tr) ≡ entryCheck (store wk l tr)
 unfolding entryCheck sizesFit clocksFit
-entry-same wk l l′ tr a f = rw (images-same wk l wk l′ refl a (λ j h. refl) (λ j h. f j (omega arith)), f 2 (omega arith))
+back-entry wk l l′ tr a c = rw (images-same (unchanged wk) a, c)
 
-pub quiet-back : (ticks : ℕ) (st : Store) (slot line : ℕ) → Quiet ticks st → Quiet ticks (writeBack st slot line .store)
-unfolding writeBack copied contentsLine headerLine
-quiet-back ticks st slot line q = go (writeBackCheck st slot line)
+pub quiet-back : (ticks : ℕ) (st : Store) (slot code : ℕ) → Quiet ticks st → Quiet ticks (writeBack st slot code .store)
+quiet-back ticks st slot code q =
+    back-way (λ x. Quiet ticks (x .store)) st slot code (λ r. q)
+    (back (contents-alike (st .persistent) _ _ slot _) (front-past-contents (st .persistent) _ _ slot 2 _ (omega arith)))
+    (back (header-alike (st .persistent) slot _) (front-past-header (st .persistent) slot 2 _ (omega arith)))
   where
-    back : (l′ : List ℕ) → length l′ ≡ length (st .persistent) → ((j : ℕ) → j < 3 → getD l′ j 0 ≡ getD (st .persistent) j 0) → Quiet ticks (store (st .working) l′ (st .transient))
-    back l′ a f = record { entry = entry-same (st .working) (st .persistent) l′ (st .transient) a f ∙ q .entry; idle = q .idle; room = q .room }
+    back : {l′ : List ℕ} → Alike (st .persistent) l′ → clockOf l′ ≡ clockOf (st .persistent) → Quiet ticks (store (st .working) l′ (st .transient))
+    back a c = record { entry = back-entry (st .working) (st .persistent) _ (st .transient) a c ∙ q .entry; none-open = q .none-open; room = q .room }
 
-    which : (b : Bool) → Quiet ticks (store (st .working)
-        (cond b (contentsLine (st .working) (st .persistent) (slotsOf (st .working)) (widthOf (st .working)) slot) (headerLine (st .working) (st .persistent) slot)) (st .transient))
-    which true = back _ (length-setContents (st .persistent) _ _ slot _) (λ j h. front-setContents (st .persistent) _ _ slot j _ (omega arith))
-    which false = back _ (length-setHeader (st .persistent) slot _) (λ j h. front-setHeader (st .persistent) slot j _ h)
-
-    go : (k : Check) → Quiet ticks (written k st (copied st slot line) .store)
-    go (Refused r) = q
-    go Accepted = which (eqb line 0)
-
--- working and notes stay
-pub back-same : (st : Store) (slot line : ℕ) → (writeBack st slot line .store .working ≡ st .working) × (writeBack st slot line .store .transient ≡ st .transient)
-unfolding writeBack
-back-same st slot line = go (writeBackCheck st slot line)
-  where
-    go : (k : Check) → (written k st (copied st slot line) .store .working ≡ st .working) × (written k st (copied st slot line) .store .transient ≡ st .transient)
-    go (Refused r) = (refl, refl)
-    go Accepted = (refl, refl)
+pub back-same : (st : Store) (slot code : ℕ) → tableOf (writeBack st slot code .store) ≡ tableOf st
+back-same st slot code = back-way (λ x. tableOf (x .store) ≡ tableOf st) st slot code (λ r. refl) refl refl

@@ -1,9 +1,14 @@
 pub mod Advance
 pub mod Sync
 pub mod WriteBack
+pub mod Requires
+pub mod Moved
 pub mod Ways
-pub mod Code
-pub mod Entry
+pub mod From
 pub mod Left
-pub mod Calls
+pub mod StepExits
+pub mod OpenExits
+pub mod AdvanceExits
+pub mod SyncExits
+pub mod WriteBackExits
 pub mod Kept

@@ -3,17 +3,23 @@ use crate::Advance;
 use crate::Place;
 use reply::Check;
 use reply::Refusal;
+use transient::sizes::Sizes;
 ghost use mathlib.Core.Path.{_≡_};
-ghost use Rattle.transient.specs.Store.{store};
-ghost use Rattle.transient.specs.Layout.{placeSlot, Notes};
-ghost use Rattle.epochs.specs.Advance.{advanceCheck, advance};
-ghost use Rattle.epochs.specs.Code.{Going, replyOf};
-ghost use Rattle.epochs.specs.Entry.{phaseUnderway, heldOpen, Whole};
-ghost use Rattle.epochs.specs.Calls.{advanced, noteStep, advanceAt};
+ghost use Prim.Native.Nat.{_≤_};
+ghost use lib.ListN.{length};
+ghost use Rattle.transient.specs.Layout.{headWords, placeSlot};
+ghost use Rattle.transient.specs.Store.{store, outcome};
+ghost use Rattle.transient.specs.Requires.{Notes, EnteredWith};
+ghost use Rattle.epochs.specs.Advance.{step, underway, advanceCheck, noted, advanceSized, advance};
+ghost use Rattle.epochs.specs.Requires.{Going};
+ghost use Rattle.epochs.specs.Moved.{replyOf, notedPlace};
+ghost use Rattle.epochs.specs.AdvanceExits.{heldOpen};
 
-fn underway(phase: u32) -> bool
-    ensures { λ r. ⌜ r ≡ phaseUnderway phase ⌝ }
+fn underway(transient: &[u32]) -> bool
+    requires { ⌜ headWords ≤ length (now transient) ⌝ }
+    ensures { λ r. ⌜ r ≡ underway (now (transient .entry)) ⌝ }
 {
+    let phase = transient::notes::place_phase(transient);
     if phase < Place::RECLAIM {
         return false;
     }
@@ -21,25 +27,25 @@ fn underway(phase: u32) -> bool
 }
 
 // An advance begins only when the epoch before the clock has no operation open.
-fn held_open(transient: &[u32], n: usize, t: usize, c: u32) -> bool
-    requires { ⌜ Notes (now transient) n t ⌝ }
-    ensures { λ r. ⌜ r ≡ heldOpen (now (transient .entry)) t c ⌝ }
+fn held_open(transient: &[u32], z: Sizes, c: u32) -> bool
+    requires { ⌜ Notes (now transient) z ⌝ }
+    ensures { λ r. ⌜ r ≡ heldOpen z (now (transient .entry)) c ⌝ }
 {
-    if underway(transient::notes::place_phase(transient)) {
+    if underway(transient) {
         return false;
     }
-    crate::open::open_below(transient, n, t, c)
+    crate::open::open_below(transient, z, c)
 }
 
 // Refusals 14 and 15.
-fn check(transient: &[u32], n: usize, t: usize, c: u32) -> Check
-    requires { ⌜ Notes (now transient) n t ⌝ }
-    ensures { λ r. ⌜ r ≡ advanceCheck (now (transient .entry)) t c ⌝ }
+fn check(transient: &[u32], z: Sizes, c: u32) -> Check
+    requires { ⌜ Notes (now transient) z ⌝ }
+    ensures { λ r. ⌜ r ≡ advanceCheck z (now (transient .entry)) c ⌝ }
 {
-    if held_open(transient, n, t, c) {
+    if held_open(transient, z, c) {
         return Check::Refused(Refusal::StillOpen);
     }
-    if c == 4000000000 {
+    if c == image::shape::MOST_NUMBER {
         return Check::Refused(Refusal::LastEpoch);
     }
     Check::Accepted
@@ -60,50 +66,46 @@ fn note_step(
     working: &mut [u32],
     persistent: &mut [u32],
     transient: &mut [u32],
-    n: usize,
-    w: usize,
-    t: usize,
+    z: Sizes,
     c: u32,
 ) -> Advance
-    requires { ⌜ Going (now working) (now persistent) (now transient) n w t c (placeSlot (now transient)) ⌝ }
-    ensures { λ r. ⌜ advanced r (now (working .exit)) (now (persistent .exit)) (now (transient .exit)) ≡ noteStep (now (working .entry)) (now (persistent .entry)) (now (transient .entry)) n w t c ⌝ }
+    requires { ⌜ Going (now working) (now persistent) (now transient) z c (placeSlot (now transient)) ⌝ }
+    ensures { λ r. ⌜ outcome r (now (working .exit)) (now (persistent .exit)) (now (transient .exit)) ≡ noted (step z (store (now (working .entry)) (now (persistent .entry)) (now (transient .entry))) c (notedPlace (now (transient .entry)))) ⌝ }
 {
     let place = Place {
         phase: transient::notes::place_phase(transient),
         slot: transient::notes::place_slot(transient),
     };
-    let z = crate::lent::step_from(working, persistent, transient, n, w, t, c, place);
-    transient::notes::set_place(transient, z.place.phase, image::shape::narrow(z.place.slot));
-    reply_of(z.ticked)
+    let m = crate::lent::step_from(working, persistent, transient, z, c, place);
+    transient::notes::set_place(transient, m.place.phase, image::shape::narrow(m.place.slot));
+    reply_of(m.ticked)
 }
 
-fn advance_at(
+fn advance_sized(
     working: &mut [u32],
     persistent: &mut [u32],
     transient: &mut [u32],
-    n: usize,
-    w: usize,
-    t: usize,
+    z: Sizes,
 ) -> Advance
-    requires { ⌜ Whole (now working) (now persistent) (now transient) n w t ⌝ }
-    ensures { λ r. ⌜ advanced r (now (working .exit)) (now (persistent .exit)) (now (transient .exit)) ≡ advanceAt (now (working .entry)) (now (persistent .entry)) (now (transient .entry)) n w t ⌝ }
+    requires { ⌜ EnteredWith (now working) (now persistent) (now transient) z ⌝ }
+    ensures { λ r. ⌜ outcome r (now (working .exit)) (now (persistent .exit)) (now (transient .exit)) ≡ advanceSized z (store (now (working .entry)) (now (persistent .entry)) (now (transient .entry))) ⌝ }
 {
     let c = image::shape::clock(working);
-    match check(transient, n, t, c) {
+    match check(transient, z, c) {
         Check::Refused(r) => Advance::Declined(r),
-        Check::Accepted => note_step(working, persistent, transient, n, w, t, c),
+        Check::Accepted => note_step(working, persistent, transient, z, c),
     }
 }
 
 // Stores one line, or declines and changes nothing.
 pub fn advance(working: &mut [u32], persistent: &mut [u32], transient: &mut [u32]) -> Advance
-    ensures { λ r. ⌜ advanced r (now (working .exit)) (now (persistent .exit)) (now (transient .exit)) ≡ advance (store (now (working .entry)) (now (persistent .entry)) (now (transient .entry))) ⌝ }
+    ensures { λ r. ⌜ outcome r (now (working .exit)) (now (persistent .exit)) (now (transient .exit)) ≡ advance (store (now (working .entry)) (now (persistent .entry)) (now (transient .entry))) ⌝ }
 {
     match transient::entry::check(working, persistent, transient) {
         Check::Refused(r) => Advance::Declined(r),
         Check::Accepted => {
-            let z = changes::sizes::read_sizes(working, transient);
-            advance_at(working, persistent, transient, z.n, z.w, z.t)
+            let z = transient::sizes::read_sizes(working, transient);
+            advance_sized(working, persistent, transient, z)
         }
     }
 }

@@ -1,9 +1,12 @@
 // The place of an advance, lent to the step that moves it.
 use crate::Place;
 use crate::step::Moved;
+use transient::sizes::Sizes;
 ghost use mathlib.Core.Path.{_≡_};
+ghost use Rattle.transient.specs.Store.{store};
 ghost use Rattle.epochs.specs.Advance.{stepped, step};
-ghost use Rattle.epochs.specs.Code.{Going, replyOf};
+ghost use Rattle.epochs.specs.Requires.{Going};
+ghost use Rattle.epochs.specs.Moved.{replyOf, moved};
 
 // One step, which moves the place on. Did it tick?
 fn step_place(
@@ -11,17 +14,15 @@ fn step_place(
     working: &mut [u32],
     persistent: &mut [u32],
     transient: &mut [u32],
-    n: usize,
-    w: usize,
-    t: usize,
+    z: Sizes,
     c: u32,
 ) -> bool
-    requires { ⌜ Going (now working) (now persistent) (now transient) n w t c (now place .slot) ⌝ }
-    ensures { λ r. ⌜ stepped (replyOf r) (now (working .exit)) (now (persistent .exit)) (now (transient .exit)) (now (place .exit)) ≡ step (now (working .entry)) (now (persistent .entry)) (now (transient .entry)) n w t c (now (place .entry)) ⌝ }
+    requires { ⌜ Going (now working) (now persistent) (now transient) z c (now place .slot) ⌝ }
+    ensures { λ r. ⌜ stepped (replyOf r) (now (working .exit)) (now (persistent .exit)) (now (transient .exit)) (now (place .exit)) ≡ step z (store (now (working .entry)) (now (persistent .entry)) (now (transient .entry))) c (now (place .entry)) ⌝ }
 {
-    let z = crate::step::step(working, persistent, transient, n, w, t, c, *place);
-    *place = z.place;
-    z.ticked
+    let m = crate::step::step(working, persistent, transient, z, c, *place);
+    *place = m.place;
+    m.ticked
 }
 
 // The same from a place by value: what every other caller uses.
@@ -29,16 +30,14 @@ pub fn step_from(
     working: &mut [u32],
     persistent: &mut [u32],
     transient: &mut [u32],
-    n: usize,
-    w: usize,
-    t: usize,
+    z: Sizes,
     c: u32,
     from: Place,
 ) -> Moved
-    requires { ⌜ Going (now working) (now persistent) (now transient) n w t c (from .slot) ⌝ }
-    ensures { λ r. ⌜ stepped (replyOf (r .ticked)) (now (working .exit)) (now (persistent .exit)) (now (transient .exit)) (r .place) ≡ step (now (working .entry)) (now (persistent .entry)) (now (transient .entry)) n w t c from ⌝ }
+    requires { ⌜ Going (now working) (now persistent) (now transient) z c (from .slot) ⌝ }
+    ensures { λ r. ⌜ moved r (now (working .exit)) (now (persistent .exit)) (now (transient .exit)) ≡ step z (store (now (working .entry)) (now (persistent .entry)) (now (transient .entry))) c from ⌝ }
 {
     let mut place = from;
-    let ticked = step_place(&mut place, working, persistent, transient, n, w, t, c);
+    let ticked = step_place(&mut place, working, persistent, transient, z, c);
     Moved { ticked, place }
 }

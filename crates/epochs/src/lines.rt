@@ -1,31 +1,25 @@
-// The lines that go from working to persistent.
+// Header lines: one that goes from working to persistent, and a free one in both.
 use image::header::Header;
+use transient::sizes::Sizes;
 ghost use mathlib.Core.Path.{_≡_};
-ghost use Rattle.epochs.specs.Advance.{contentsLine, headerLine};
-ghost use Rattle.epochs.specs.Code.{Both, Freed};
-
-// A slot's contents, as working holds them.
-pub fn write_contents(working: &[u32], persistent: &mut [u32], n: usize, w: usize, s: usize)
-    requires { ⌜ Both (now working) (now persistent) n w s ⌝ }
-    ensures { λ _. ⌜ now (persistent .exit) ≡ contentsLine (now (working .entry)) (now (persistent .entry)) n w s ⌝ }
-{
-    image::contents::copy_contents(working, persistent, n, w, s);
-}
+ghost use Rattle.image.specs.Line.{heldHeader, storeLine};
+ghost use Rattle.image.specs.Requires.{Slots};
+ghost use Rattle.epochs.specs.StepExits.{Freed};
 
 // A slot's header, as working holds it.
-pub fn write_header(working: &[u32], persistent: &mut [u32], n: usize, w: usize, s: usize)
-    requires { ⌜ Both (now working) (now persistent) n w s ⌝ }
-    ensures { λ _. ⌜ now (persistent .exit) ≡ headerLine (now (working .entry)) (now (persistent .entry)) s ⌝ }
+pub fn write_header(working: &[u32], persistent: &mut [u32], z: Sizes, s: usize)
+    requires { ⌜ Slots (now working) (now persistent) (z .n) (z .w) s ⌝ }
+    ensures { λ _. ⌜ now (persistent .exit) ≡ storeLine (now (persistent .entry)) (heldHeader (now (working .entry)) s) ⌝ }
 {
-    let h = image::header::header_at(working, n, s);
-    image::header::set_header(persistent, n, s, h);
+    let h = image::header::header_at(working, z.n, s);
+    image::header::set_header(persistent, z.n, s, h);
 }
 
 // A slot becomes free in both images.
-pub fn free_both(working: &mut [u32], persistent: &mut [u32], n: usize, w: usize, s: usize)
-    requires { ⌜ Both (now working) (now persistent) n w s ⌝ }
+pub fn free_both(working: &mut [u32], persistent: &mut [u32], z: Sizes, s: usize)
+    requires { ⌜ Slots (now working) (now persistent) (z .n) (z .w) s ⌝ }
     ensures { λ _. ⌜ Freed (now (working .entry)) (now (persistent .entry)) s (now (working .exit)) (now (persistent .exit)) ⌝ }
 {
-    image::header::set_header(working, n, s, Header::free());
-    image::header::set_header(persistent, n, s, Header::free());
+    image::header::set_header(working, z.n, s, Header::free());
+    image::header::set_header(persistent, z.n, s, Header::free());
 }

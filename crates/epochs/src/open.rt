@@ -1,33 +1,34 @@
 // Operations that an advance or a sync has to wait for.
+use transient::sizes::Sizes;
 ghost use mathlib.Core.Path.{_≡_};
-ghost use Rattle.transient.specs.Layout.{Notes, ThreadOf};
+ghost use Rattle.transient.specs.Requires.{Notes, ThreadOf};
 ghost use Rattle.epochs.specs.Advance.{openBelow};
 ghost use Rattle.epochs.specs.Sync.{anyOpen};
-ghost use Rattle.epochs.specs.Entry.{belowAt, openAt};
+ghost use Rattle.epochs.specs.OpenExits.{isOpen, isOpenBelow};
 
-fn below_at(transient: &[u32], n: usize, t: usize, c: u32, thread: usize) -> bool
-    requires { ⌜ ThreadOf (now transient) n t thread ⌝ }
-    ensures { λ r. ⌜ r ≡ belowAt (now (transient .entry)) c thread ⌝ }
+fn is_open(transient: &[u32], z: Sizes, thread: usize) -> bool
+    requires { ⌜ ThreadOf (now transient) z thread ⌝ }
+    ensures { λ r. ⌜ r ≡ isOpen (now (transient .entry)) thread ⌝ }
 {
-    let e = transient::notes::open_epoch(transient, n, t, thread);
+    transient::notes::open_epoch(transient, z, thread) != 0
+}
+
+fn is_open_below(transient: &[u32], z: Sizes, c: u32, thread: usize) -> bool
+    requires { ⌜ ThreadOf (now transient) z thread ⌝ }
+    ensures { λ r. ⌜ r ≡ isOpenBelow (now (transient .entry)) c thread ⌝ }
+{
+    let e = transient::notes::open_epoch(transient, z, thread);
     image::shape::wide(e) + 1 == image::shape::wide(c)
 }
 
-fn open_at(transient: &[u32], n: usize, t: usize, thread: usize) -> bool
-    requires { ⌜ ThreadOf (now transient) n t thread ⌝ }
-    ensures { λ r. ⌜ r ≡ openAt (now (transient .entry)) thread ⌝ }
-{
-    transient::notes::open_epoch(transient, n, t, thread) != 0
-}
-
-// Is an operation open in the epoch before c?
-pub fn open_below(transient: &[u32], n: usize, t: usize, c: u32) -> bool
-    requires { ⌜ Notes (now transient) n t ⌝ }
-    ensures { λ r. ⌜ r ≡ openBelow (now (transient .entry)) t c ⌝ }
+// Is any operation open?
+pub fn any_open(transient: &[u32], z: Sizes) -> bool
+    requires { ⌜ Notes (now transient) z ⌝ }
+    ensures { λ r. ⌜ r ≡ anyOpen (now (transient .entry)) (z .t) ⌝ }
 {
     let mut thread = 0;
-    while thread < t {
-        if below_at(transient, n, t, c, thread) {
+    while thread < z.t {
+        if is_open(transient, z, thread) {
             return true;
         }
         thread += 1;
@@ -35,14 +36,14 @@ pub fn open_below(transient: &[u32], n: usize, t: usize, c: u32) -> bool
     false
 }
 
-// Is any operation open?
-pub fn any_open(transient: &[u32], n: usize, t: usize) -> bool
-    requires { ⌜ Notes (now transient) n t ⌝ }
-    ensures { λ r. ⌜ r ≡ anyOpen (now (transient .entry)) t ⌝ }
+// Is an operation open in the epoch before c?
+pub fn open_below(transient: &[u32], z: Sizes, c: u32) -> bool
+    requires { ⌜ Notes (now transient) z ⌝ }
+    ensures { λ r. ⌜ r ≡ openBelow (now (transient .entry)) (z .t) c ⌝ }
 {
     let mut thread = 0;
-    while thread < t {
-        if open_at(transient, n, t, thread) {
+    while thread < z.t {
+        if is_open_below(transient, z, c, thread) {
             return true;
         }
         thread += 1;

@@ -1,10 +1,14 @@
 // One step of an advance: the next line is stored. The place goes through it by value.
 use crate::Place;
 use search::Found;
+use transient::sizes::Sizes;
 ghost use mathlib.Core.Path.{_≡_};
 ghost use Prim.Native.Nat.{_<_};
-ghost use Rattle.epochs.specs.Advance.{stepped, passing, reclaimed, ticking, flushFrom, reclaimFrom, step};
-ghost use Rattle.epochs.specs.Code.{Advancing, Going, headed, reclaimAt, replyOf};
+ghost use Rattle.image.specs.Layout.{mostSlots};
+ghost use Rattle.transient.specs.Store.{store};
+ghost use Rattle.epochs.specs.Advance.{passing, reclaimed, headerFlushed, ticking, flushFrom, reclaimFrom, step};
+ghost use Rattle.epochs.specs.Requires.{Advancing, Going};
+ghost use Rattle.epochs.specs.Moved.{moved};
 
 // Whether a step ticked, and the place that comes after it.
 pub struct Moved {
@@ -14,7 +18,7 @@ pub struct Moved {
 
 // Past slot s: the next slot in this phase, or the next phase from slot 0 on.
 fn passing(n: usize, s: usize, phase: u32, next: u32) -> Place
-    requires { ⌜ s < 1024 ⌝ }
+    requires { ⌜ s < mostSlots ⌝ }
     ensures { λ r. ⌜ r ≡ passing n s phase next ⌝ }
 {
     let up = s + 1;
@@ -32,18 +36,36 @@ fn reclaim(
     working: &mut [u32],
     persistent: &mut [u32],
     transient: &mut [u32],
-    n: usize,
-    w: usize,
-    t: usize,
+    z: Sizes,
     c: u32,
     s: usize,
 ) -> Moved
-    requires { ⌜ Going (now working) (now persistent) (now transient) n w t c s ⌝ }
-    ensures { λ r. ⌜ stepped (replyOf (r .ticked)) (now (working .exit)) (now (persistent .exit)) (now (transient .exit)) (r .place) ≡ reclaimed (now (working .entry)) (now (persistent .entry)) (now (transient .entry)) n t s ⌝ }
+    requires { ⌜ Going (now working) (now persistent) (now transient) z c s ⌝ }
+    ensures { λ r. ⌜ moved r (now (working .exit)) (now (persistent .exit)) (now (transient .exit)) ≡ reclaimed z (store (now (working .entry)) (now (persistent .entry)) (now (transient .entry))) s ⌝ }
 {
-    crate::lines::free_both(working, persistent, n, w, s);
-    transient::notes::set_retired(transient, n, t, s, 0);
-    let place = passing(n, s, Place::RECLAIM, Place::CONTENTS);
+    crate::lines::free_both(working, persistent, z, s);
+    transient::notes::set_retired(transient, z, s, 0);
+    let place = passing(z.n, s, Place::RECLAIM, Place::CONTENTS);
+    Moved {
+        ticked: false,
+        place,
+    }
+}
+
+// The header of the slot whose contents are flushed.
+fn flush_header(
+    working: &mut [u32],
+    persistent: &mut [u32],
+    transient: &mut [u32],
+    z: Sizes,
+    c: u32,
+    s: usize,
+) -> Moved
+    requires { ⌜ Going (now working) (now persistent) (now transient) z c s ⌝ }
+    ensures { λ r. ⌜ moved r (now (working .exit)) (now (persistent .exit)) (now (transient .exit)) ≡ headerFlushed z (store (now (working .entry)) (now (persistent .entry)) (now (transient .entry))) s ⌝ }
+{
+    crate::lines::write_header(working, persistent, z, s);
+    let place = passing(z.n, s, Place::CONTENTS, Place::CLOCK);
     Moved {
         ticked: false,
         place,
@@ -55,17 +77,15 @@ fn tick(
     working: &mut [u32],
     persistent: &mut [u32],
     transient: &mut [u32],
-    n: usize,
-    w: usize,
-    t: usize,
+    z: Sizes,
     c: u32,
 ) -> Moved
-    requires { ⌜ Advancing (now working) (now persistent) (now transient) n w t c ⌝ }
-    ensures { λ r. ⌜ stepped (replyOf (r .ticked)) (now (working .exit)) (now (persistent .exit)) (now (transient .exit)) (r .place) ≡ ticking (now (working .entry)) (now (persistent .entry)) (now (transient .entry)) n t c ⌝ }
+    requires { ⌜ Advancing (now working) (now persistent) (now transient) z c ⌝ }
+    ensures { λ r. ⌜ moved r (now (working .exit)) (now (persistent .exit)) (now (transient .exit)) ≡ ticking z (store (now (working .entry)) (now (persistent .entry)) (now (transient .entry))) c ⌝ }
 {
     image::shape::set_clock(working, c + 1);
     image::shape::set_clock(persistent, c + 1);
-    transient::notes::empty_list(transient, n, t, c - 1);
+    transient::notes::empty_list(transient, z, c - 1);
     let place = Place {
         phase: Place::NONE,
         slot: 0,
@@ -81,18 +101,16 @@ fn flush_from(
     working: &mut [u32],
     persistent: &mut [u32],
     transient: &mut [u32],
-    n: usize,
-    w: usize,
-    t: usize,
+    z: Sizes,
     c: u32,
     p: usize,
 ) -> Moved
-    requires { ⌜ Going (now working) (now persistent) (now transient) n w t c p ⌝ }
-    ensures { λ r. ⌜ stepped (replyOf (r .ticked)) (now (working .exit)) (now (persistent .exit)) (now (transient .exit)) (r .place) ≡ flushFrom (now (working .entry)) (now (persistent .entry)) (now (transient .entry)) n w t c p ⌝ }
+    requires { ⌜ Going (now working) (now persistent) (now transient) z c p ⌝ }
+    ensures { λ r. ⌜ moved r (now (working .exit)) (now (persistent .exit)) (now (transient .exit)) ≡ flushFrom z (store (now (working .entry)) (now (persistent .entry)) (now (transient .entry))) c p ⌝ }
 {
-    match crate::due::waiting_from(transient, n, t, c, p) {
+    match crate::due::waiting_from(transient, z, c, p) {
         Found::At(s) => {
-            crate::lines::write_contents(working, persistent, n, w, s);
+            image::contents::copy_contents(working, persistent, z.n, z.w, s);
             let place = Place {
                 phase: Place::HEADER,
                 slot: s,
@@ -102,7 +120,7 @@ fn flush_from(
                 place,
             }
         }
-        Found::Nothing => tick(working, persistent, transient, n, w, t, c),
+        Found::Nothing => tick(working, persistent, transient, z, c),
     }
 }
 
@@ -111,51 +129,17 @@ fn reclaim_from(
     working: &mut [u32],
     persistent: &mut [u32],
     transient: &mut [u32],
-    n: usize,
-    w: usize,
-    t: usize,
+    z: Sizes,
     c: u32,
     p: usize,
 ) -> Moved
-    requires { ⌜ Going (now working) (now persistent) (now transient) n w t c p ⌝ }
-    ensures { λ r. ⌜ stepped (replyOf (r .ticked)) (now (working .exit)) (now (persistent .exit)) (now (transient .exit)) (r .place) ≡ reclaimFrom (now (working .entry)) (now (persistent .entry)) (now (transient .entry)) n w t c p ⌝ }
+    requires { ⌜ Going (now working) (now persistent) (now transient) z c p ⌝ }
+    ensures { λ r. ⌜ moved r (now (working .exit)) (now (persistent .exit)) (now (transient .exit)) ≡ reclaimFrom z (store (now (working .entry)) (now (persistent .entry)) (now (transient .entry))) c p ⌝ }
 {
-    match crate::due::due_from(working, transient, n, w, t, c, p) {
-        Found::At(s) => reclaim(working, persistent, transient, n, w, t, c, s),
-        Found::Nothing => flush_from(working, persistent, transient, n, w, t, c, 0),
+    match crate::due::due_from(working, transient, z, c, p) {
+        Found::At(s) => reclaim(working, persistent, transient, z, c, s),
+        Found::Nothing => flush_from(working, persistent, transient, z, c, 0),
     }
-}
-
-// The header of the slot whose contents are flushed.
-fn flush_header(
-    working: &mut [u32],
-    persistent: &mut [u32],
-    transient: &mut [u32],
-    n: usize,
-    w: usize,
-    t: usize,
-    c: u32,
-    s: usize,
-) -> Moved
-    requires { ⌜ Going (now working) (now persistent) (now transient) n w t c s ⌝ }
-    ensures { λ r. ⌜ stepped (replyOf (r .ticked)) (now (working .exit)) (now (persistent .exit)) (now (transient .exit)) (r .place) ≡ headed (now (working .entry)) (now (persistent .entry)) (now (transient .entry)) n s ⌝ }
-{
-    crate::lines::write_header(working, persistent, n, w, s);
-    let place = passing(n, s, Place::CONTENTS, Place::CLOCK);
-    Moved {
-        ticked: false,
-        place,
-    }
-}
-
-// Where reclaiming goes on, or begins.
-fn reclaim_at(phase: u32, slot: usize) -> usize
-    ensures { λ r. ⌜ r ≡ reclaimAt phase slot ⌝ }
-{
-    if phase == Place::RECLAIM {
-        return slot;
-    }
-    0
 }
 
 // From a place on; where none is underway an advance begins.
@@ -163,24 +147,26 @@ pub fn step(
     working: &mut [u32],
     persistent: &mut [u32],
     transient: &mut [u32],
-    n: usize,
-    w: usize,
-    t: usize,
+    z: Sizes,
     c: u32,
     place: Place,
 ) -> Moved
-    requires { ⌜ Going (now working) (now persistent) (now transient) n w t c (place .slot) ⌝ }
-    ensures { λ r. ⌜ stepped (replyOf (r .ticked)) (now (working .exit)) (now (persistent .exit)) (now (transient .exit)) (r .place) ≡ step (now (working .entry)) (now (persistent .entry)) (now (transient .entry)) n w t c place ⌝ }
+    requires { ⌜ Going (now working) (now persistent) (now transient) z c (place .slot) ⌝ }
+    ensures { λ r. ⌜ moved r (now (working .exit)) (now (persistent .exit)) (now (transient .exit)) ≡ step z (store (now (working .entry)) (now (persistent .entry)) (now (transient .entry))) c place ⌝ }
 {
     let at = place.slot;
     let phase = place.phase;
-    match phase {
-        2 => flush_from(working, persistent, transient, n, w, t, c, at),
-        3 => flush_header(working, persistent, transient, n, w, t, c, at),
-        4 => tick(working, persistent, transient, n, w, t, c),
-        _ => {
-            let from = reclaim_at(phase, at);
-            reclaim_from(working, persistent, transient, n, w, t, c, from)
-        }
+    if phase == Place::RECLAIM {
+        return reclaim_from(working, persistent, transient, z, c, at);
     }
+    if phase == Place::CONTENTS {
+        return flush_from(working, persistent, transient, z, c, at);
+    }
+    if phase == Place::HEADER {
+        return flush_header(working, persistent, transient, z, c, at);
+    }
+    if phase == Place::CLOCK {
+        return tick(working, persistent, transient, z, c);
+    }
+    reclaim_from(working, persistent, transient, z, c, 0)
 }

@@ -3,28 +3,24 @@ use crate::Advance;
 use crate::Sync;
 use reply::Check;
 use reply::Refusal;
+use transient::sizes::Sizes;
 ghost use mathlib.Core.Path.{_≡_};
-ghost use Rattle.transient.specs.Store.{store};
-ghost use Rattle.epochs.specs.Sync.{syncCheck, synced, sync};
-ghost use Rattle.epochs.specs.Entry.{readyCheck, Whole};
-ghost use Rattle.epochs.specs.Calls.{syncedFrom, Syncable};
+ghost use Prim.Native.Nat.{_*_};
+ghost use Rattle.image.specs.Layout.{slotsOf};
+ghost use Rattle.transient.specs.Store.{store, table, sizesOf, outcome};
+ghost use Rattle.transient.specs.Requires.{Entered, EnteredWith};
+ghost use Rattle.epochs.specs.Sync.{syncCheck, advances, mostLines, sync};
+ghost use Rattle.epochs.specs.SyncExits.{readyCheck};
 
 // Refusals 14 and 15.
-fn check_ready(
-    working: &[u32],
-    persistent: &[u32],
-    transient: &[u32],
-    n: usize,
-    w: usize,
-    t: usize,
-) -> Check
-    requires { ⌜ Whole (now working) (now persistent) (now transient) n w t ⌝ }
-    ensures { λ r. ⌜ r ≡ readyCheck (now (working .entry)) (now (transient .entry)) t ⌝ }
+fn check_ready(working: &[u32], transient: &[u32], z: Sizes) -> Check
+    requires { ⌜ Entered (now working) (now transient) z ⌝ }
+    ensures { λ r. ⌜ r ≡ readyCheck (now (working .entry)) (now (transient .entry)) (z .t) ⌝ }
 {
-    if crate::open::any_open(transient, n, t) {
+    if crate::open::any_open(transient, z) {
         return Check::Refused(Refusal::StillOpen);
     }
-    if 3999999998 < image::shape::clock(working) {
+    if image::shape::MOST_NUMBER - 2 < image::shape::clock(working) {
         return Check::Refused(Refusal::LastEpoch);
     }
     Check::Accepted
@@ -36,15 +32,15 @@ fn check(working: &[u32], persistent: &[u32], transient: &[u32]) -> Check
     match transient::entry::check(working, persistent, transient) {
         Check::Refused(r) => Check::Refused(r),
         Check::Accepted => {
-            let z = changes::sizes::read_sizes(working, transient);
-            check_ready(working, persistent, transient, z.n, z.w, z.t)
+            let z = transient::sizes::read_sizes(working, transient);
+            check_ready(working, transient, z)
         }
     }
 }
 
 fn sync_lines(working: &mut [u32], persistent: &mut [u32], transient: &mut [u32]) -> Sync
-    requires { ⌜ Syncable (now working) (now transient) ⌝ }
-    ensures { λ r. ⌜ synced r (store (now (working .exit)) (now (persistent .exit)) (now (transient .exit))) ≡ syncedFrom (store (now (working .entry)) (now (persistent .entry)) (now (transient .entry))) ⌝ }
+    requires { ⌜ EnteredWith (now working) (now persistent) (now transient) (sizesOf (table (now working) (now transient))) ⌝ }
+    ensures { λ r. ⌜ outcome r (now (working .exit)) (now (persistent .exit)) (now (transient .exit)) ≡ advances (2 * mostLines (slotsOf (now (working .entry)))) 2 0 (store (now (working .entry)) (now (persistent .entry)) (now (transient .entry))) ⌝ }
 {
     let mut ticks: usize = 2;
     let mut lines = 0;
@@ -61,7 +57,7 @@ fn sync_lines(working: &mut [u32], persistent: &mut [u32], transient: &mut [u32]
 
 // Makes lasting all that happened before it, and counts the lines stored.
 pub fn sync(working: &mut [u32], persistent: &mut [u32], transient: &mut [u32]) -> Sync
-    ensures { λ r. ⌜ synced r (store (now (working .exit)) (now (persistent .exit)) (now (transient .exit))) ≡ sync (store (now (working .entry)) (now (persistent .entry)) (now (transient .entry))) ⌝ }
+    ensures { λ r. ⌜ outcome r (now (working .exit)) (now (persistent .exit)) (now (transient .exit)) ≡ sync (store (now (working .entry)) (now (persistent .entry)) (now (transient .entry))) ⌝ }
 {
     match check(working, persistent, transient) {
         Check::Refused(r) => Sync::Declined(r),

@@ -1,36 +1,34 @@
 // A line written back: the memory copies one from working to persistent outside of any advance.
 use reply::Check;
 use reply::Refusal;
+use transient::sizes::Sizes;
 ghost use mathlib.Core.Path.{_≡_};
-ghost use Rattle.transient.specs.Store.{store};
-ghost use Rattle.changes.specs.Changed.{answer};
-ghost use Rattle.epochs.specs.WriteBack.{writeBack};
-ghost use Rattle.epochs.specs.Entry.{Whole, writeLine};
+ghost use Rattle.transient.specs.Store.{store, outcome};
+ghost use Rattle.transient.specs.Requires.{EnteredWith};
+ghost use Rattle.epochs.specs.WriteBack.{writeBackSized, writeBack};
 
 fn write_line(
     working: &[u32],
     persistent: &mut [u32],
     transient: &[u32],
-    n: usize,
-    w: usize,
-    t: usize,
+    z: Sizes,
     slot: usize,
     line: u32,
 ) -> Check
-    requires { ⌜ Whole (now working) (now persistent) (now transient) n w t ⌝ }
-    ensures { λ r. ⌜ answer r (now (working .entry)) (now (persistent .exit)) (now (transient .entry)) ≡ writeLine (now (working .entry)) (now (persistent .entry)) (now (transient .entry)) n w slot line ⌝ }
+    requires { ⌜ EnteredWith (now working) (now persistent) (now transient) z ⌝ }
+    ensures { λ r. ⌜ outcome r (now (working .entry)) (now (persistent .exit)) (now (transient .entry)) ≡ writeBackSized slot line z (store (now (working .entry)) (now (persistent .entry)) (now (transient .entry))) ⌝ }
 {
-    if n <= slot {
+    if z.n <= slot {
         return Check::Refused(Refusal::NoLine);
     }
     if 1 < line {
         return Check::Refused(Refusal::NoLine);
     }
     if line == 0 {
-        crate::lines::write_contents(working, persistent, n, w, slot);
+        image::contents::copy_contents(working, persistent, z.n, z.w, slot);
         return Check::Accepted;
     }
-    crate::lines::write_header(working, persistent, n, w, slot);
+    crate::lines::write_header(working, persistent, z, slot);
     Check::Accepted
 }
 
@@ -42,19 +40,17 @@ pub fn write_back(
     slot: u32,
     line: u32,
 ) -> Check
-    ensures { λ r. ⌜ answer r (now (working .entry)) (now (persistent .exit)) (now (transient .entry)) ≡ writeBack (store (now (working .entry)) (now (persistent .entry)) (now (transient .entry))) slot line ⌝ }
+    ensures { λ r. ⌜ outcome r (now (working .entry)) (now (persistent .exit)) (now (transient .entry)) ≡ writeBack (store (now (working .entry)) (now (persistent .entry)) (now (transient .entry))) slot line ⌝ }
 {
     match transient::entry::check(working, persistent, transient) {
         Check::Refused(r) => Check::Refused(r),
         Check::Accepted => {
-            let z = changes::sizes::read_sizes(working, transient);
+            let z = transient::sizes::read_sizes(working, transient);
             write_line(
                 working,
                 persistent,
                 transient,
-                z.n,
-                z.w,
-                z.t,
+                z,
                 image::shape::wide(slot),
                 line,
             )

@@ -1,6 +1,6 @@
 -- `check`: each way out is a law.
 use borrow.Author.Needs.{needs}
-use Rattle.epochs.specs.Entry.{checks}
+use Rattle.epochs.specs.AdvanceExits.{checks}
 use Rattle.epochs.proofs.advancing.check.Statement.{statement}
 use Rattle.epochs.proofs.advancing.check.Tie as tie
 

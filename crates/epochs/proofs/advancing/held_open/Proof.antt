@@ -1,6 +1,6 @@
 -- `held_open`: each way out is a law.
 use borrow.Author.Needs.{needs}
-use Rattle.epochs.specs.Entry.{checks}
+use Rattle.epochs.specs.AdvanceExits.{checks}
 use Rattle.epochs.proofs.advancing.held_open.Statement.{statement}
 use Rattle.epochs.proofs.advancing.held_open.Tie as tie
 
@@ -8,7 +8,6 @@ pub held-open-spec : {M : Type 1} → statement M
 held-open-spec =
     tie.close
     (tie.spec
-    (λ c κs. search (needs, checks))
     (λ c κs. search (needs, checks))
     (λ c. search (needs, checks))
     (λ c κs. search (needs, checks))

@@ -1,6 +1,6 @@
 -- `note_step`: each way out is a law.
 use borrow.Author.Needs.{needs}
-use Rattle.epochs.specs.Calls.{placing}
+use Rattle.epochs.specs.AdvanceExits.{placing}
 use Rattle.epochs.proofs.advancing.note_step.Statement.{statement}
 use Rattle.epochs.proofs.advancing.note_step.Tie as tie
 

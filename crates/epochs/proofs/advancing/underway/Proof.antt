@@ -1,6 +1,6 @@
 -- `underway`: each way out is a law.
 use borrow.Author.Needs.{needs}
-use Rattle.epochs.specs.Entry.{checks}
+use Rattle.epochs.specs.AdvanceExits.{checks}
 use Rattle.epochs.proofs.advancing.underway.Statement.{statement}
 use Rattle.epochs.proofs.advancing.underway.Tie as tie
 
@@ -8,5 +8,6 @@ pub underway-spec : {M : Type 1} → statement M
 underway-spec =
     tie.close
     (tie.spec
+    (λ c κs. search (needs, checks))
     (λ c. search (needs, checks))
     (λ c. search (needs, checks)))

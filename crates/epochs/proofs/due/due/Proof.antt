@@ -1,6 +1,6 @@
 -- `due`: each way out is a law.
 use borrow.Author.Needs.{needs}
-use Rattle.epochs.specs.Code.{dues}
+use Rattle.epochs.specs.StepExits.{dues}
 use Rattle.epochs.proofs.due.due.Statement.{statement}
 use Rattle.epochs.proofs.due.due.Tie as tie
 

@@ -1,16 +1,18 @@
 -- `due_from`: a search from p on (`From`).
 use borrow.Author.Needs.{needs}
 use Rattle.epochs.specs.Advance.{due}
-use Rattle.epochs.specs.Code.{From, dues}
+use Rattle.transient.specs.Store.{table}
+use Rattle.epochs.specs.From.{From}
+use Rattle.epochs.specs.StepExits.{dues}
 use Prim.Native.Nat.{_-_}
 use Rattle.epochs.proofs.due.due_from.Statement.{statement}
 use Rattle.epochs.proofs.due.due_from.Tie as tie
 
 abbrev Inv-loop : tie.InvT-loop
-Inv-loop working transient n w t c p s₀ s = From (due working transient t c) n p s
+Inv-loop working transient z c p s₀ s = From (due z (table working transient) c) (z .n) p s
 
 abbrev μ-loop : tie.MeasureT-loop
-μ-loop working transient n w t c p s₀ s = n - s
+μ-loop working transient z c p s₀ s = z .n - s
 
 pub due-from-spec : {M : Type 1} → statement M
 due-from-spec =

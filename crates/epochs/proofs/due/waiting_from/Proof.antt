@@ -1,16 +1,17 @@
 -- `waiting_from`: a search from p on (`From`), two slots in a round.
 use borrow.Author.Needs.{needs}
 use Rattle.transient.specs.Layout.{isWaiting}
-use Rattle.epochs.specs.Code.{From, waits}
+use Rattle.epochs.specs.From.{From}
+use Rattle.epochs.specs.StepExits.{waits}
 use Prim.Native.Nat.{_-_}
 use Rattle.epochs.proofs.due.waiting_from.Statement.{statement}
 use Rattle.epochs.proofs.due.waiting_from.Tie as tie
 
 abbrev Inv-loop : tie.InvT-loop
-Inv-loop transient n t c p s₀ s = From (isWaiting transient n t (c - 1)) n p s
+Inv-loop transient z c p s₀ s = From (isWaiting z transient (c - 1)) (z .n) p s
 
 abbrev μ-loop : tie.MeasureT-loop
-μ-loop transient n t c p s₀ s = n - s
+μ-loop transient z c p s₀ s = z .n - s
 
 pub waiting-from-spec : {M : Type 1} → statement M
 waiting-from-spec =

@@ -1,6 +1,6 @@
 -- `free_both`: each way out is a law.
 use borrow.Author.Needs.{needs}
-use Rattle.epochs.specs.Code.{lines}
+use Rattle.epochs.specs.StepExits.{lines}
 use Rattle.epochs.proofs.lines.free_both.Statement.{statement}
 use Rattle.epochs.proofs.lines.free_both.Tie as tie
 

@@ -1,6 +1,6 @@
 -- `write_header`: each way out is a law.
 use borrow.Author.Needs.{needs}
-use Rattle.epochs.specs.Code.{lines}
+use Rattle.epochs.specs.StepExits.{lines}
 use Rattle.epochs.proofs.lines.write_header.Statement.{statement}
 use Rattle.epochs.proofs.lines.write_header.Tie as tie
 

@@ -1,16 +1,16 @@
 -- `any_open`: a search (`Sought`).
 use borrow.Author.Needs.{needs}
 use Rattle.search.specs.First.{Sought}
-use Rattle.epochs.specs.Entry.{openAt, opens}
+use Rattle.epochs.specs.OpenExits.{isOpen, laws}
 use Prim.Native.Nat.{_-_}
 use Rattle.epochs.proofs.open.any_open.Statement.{statement}
 use Rattle.epochs.proofs.open.any_open.Tie as tie
 
 abbrev Inv-loop : tie.InvT-loop
-Inv-loop transient n t thread₀ thread = Sought (openAt transient) t thread
+Inv-loop transient z thread₀ thread = Sought (isOpen transient) (z .t) thread
 
 abbrev μ-loop : tie.MeasureT-loop
-μ-loop transient n t thread₀ thread = t - thread
+μ-loop transient z thread₀ thread = z .t - thread
 
 pub any-open-spec : {M : Type 1} → statement M
 any-open-spec =
@@ -18,10 +18,10 @@ any-open-spec =
     (tie.spec
     Inv-loop
     μ-loop
-    (λ c. search (needs, opens))
-    (λ c κs. search (needs, opens))
-    (λ c. search (needs, opens))
-    (λ c. search (needs, opens))
-    (λ c. search (needs, opens))
-    (λ c. search (needs, opens))
-    (λ c. search (needs, opens)))
+    (λ c. search (needs, laws))
+    (λ c κs. search (needs, laws))
+    (λ c. search (needs, laws))
+    (λ c. search (needs, laws))
+    (λ c. search (needs, laws))
+    (λ c. search (needs, laws))
+    (λ c. search (needs, laws)))

@@ -1,6 +1,6 @@
 -- `flush_header`: each way out is a law.
 use borrow.Author.Needs.{needs}
-use Rattle.epochs.specs.Code.{lines, steps}
+use Rattle.epochs.specs.StepExits.{lines, steps}
 use Rattle.epochs.proofs.step.flush_header.Statement.{statement}
 use Rattle.epochs.proofs.step.flush_header.Tie as tie
 

@@ -1,6 +1,6 @@
 -- `passing`: each way out is a law.
 use borrow.Author.Needs.{needs}
-use Rattle.epochs.specs.Code.{lines, steps}
+use Rattle.epochs.specs.StepExits.{lines, steps}
 use Rattle.epochs.proofs.step.passing.Statement.{statement}
 use Rattle.epochs.proofs.step.passing.Tie as tie
 

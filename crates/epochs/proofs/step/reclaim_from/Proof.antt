@@ -1,6 +1,6 @@
 -- `reclaim_from`: each way out is a law.
 use borrow.Author.Needs.{needs}
-use Rattle.epochs.specs.Code.{lines, steps, going-due}
+use Rattle.epochs.specs.StepExits.{lines, steps}
 use Rattle.epochs.proofs.step.reclaim_from.Statement.{statement}
 use Rattle.epochs.proofs.step.reclaim_from.Tie as tie
 
@@ -10,7 +10,7 @@ reclaim-from-spec =
     (tie.spec
     (λ c κs. search (needs, lines, steps))
     (λ c. search (needs, lines, steps))
-    (λ c κs. going-due _ _ _ _ _ _ _ _ (c .before .before .before .before .before .before .before .before .before .before .before .before .pre) (c .before .before .before .before .before .before .due-from .ensures) (c .before .before .before .before .s .given .1))
+    (λ c κs. search (needs, lines, steps))
     (λ c. search (needs, lines, steps))
     (λ c κs. search (needs, lines, steps))
     (λ c. search (needs, lines, steps))

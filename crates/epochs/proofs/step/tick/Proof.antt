@@ -1,6 +1,6 @@
 -- `tick`: each way out is a law.
 use borrow.Author.Needs.{needs}
-use Rattle.epochs.specs.Code.{lines, steps}
+use Rattle.epochs.specs.StepExits.{lines, steps}
 use Rattle.epochs.proofs.step.tick.Statement.{statement}
 use Rattle.epochs.proofs.step.tick.Tie as tie
 

@@ -1,6 +1,6 @@
 -- `sync`: each way out is a law.
 use borrow.Author.Needs.{needs}
-use Rattle.epochs.specs.Calls.{syncs, sync-syncable}
+use Rattle.epochs.specs.SyncExits.{syncs, sync-entered}
 use Rattle.epochs.proofs.syncing.sync.Statement.{statement}
 use Rattle.epochs.proofs.syncing.sync.Tie as tie
 
@@ -11,7 +11,7 @@ sync-spec =
     (λ c κs. search (needs, syncs))
     (λ c. search (needs, syncs))
     (λ c. search (needs, syncs))
-    (λ c κs. sync-syncable _ _ _ (c .before .before .before .before .before .check .ensures) (c .before .before .before .enum-told .given .1))
+    (λ c κs. sync-entered _ _ _ (c .before .before .before .before .before .check .ensures) (c .before .before .before .enum-told .given .1))
     (λ c. search (needs, syncs))
     (λ c. search (needs, syncs))
     (λ c. search (needs, syncs))

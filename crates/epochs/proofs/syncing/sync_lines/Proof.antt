@@ -1,7 +1,9 @@
 -- `sync_lines`: the calls left are enough (`Syncing`), and each lowers the budget.
 use mathlib.Core.Logic.{⊎-elim}
 use borrow.Author.Needs.{needs}
-use Rattle.epochs.specs.Calls.{budget, Syncing, syncs}
+use Rattle.transient.specs.Store.{table}
+use Rattle.epochs.specs.Left.{budget}
+use Rattle.epochs.specs.SyncExits.{Syncing, syncs}
 use Rattle.epochs.proofs.syncing.sync_lines.Statement.{statement}
 use Rattle.epochs.proofs.syncing.sync_lines.Tie as tie
 
@@ -9,7 +11,7 @@ abbrev Inv-loop : tie.InvT-loop
 Inv-loop working₀ persistent₀ transient₀ ticks₀ lines₀ working persistent transient ticks lines = Syncing working₀ persistent₀ transient₀ ticks lines working persistent transient
 
 abbrev μ-loop : tie.MeasureT-loop
-μ-loop working₀ persistent₀ transient₀ ticks₀ lines₀ working persistent transient ticks lines = budget working transient ticks
+μ-loop working₀ persistent₀ transient₀ ticks₀ lines₀ working persistent transient ticks lines = budget (table working transient) ticks
 
 pub sync-lines-spec : {M : Type 1} → statement M
 sync-lines-spec =

@@ -1,6 +1,6 @@
 -- `write_line`: each way out is a law.
 use borrow.Author.Needs.{needs}
-use Rattle.epochs.specs.Entry.{writes}
+use Rattle.epochs.specs.WriteBackExits.{writes}
 use Rattle.epochs.proofs.write_back.write_line.Statement.{statement}
 use Rattle.epochs.proofs.write_back.write_line.Tie as tie
 
