@@ -23,7 +23,7 @@ use Rattle.image.specs.Line.{headerLine, contentsLine, clockLine, storeLine}
 use Rattle.image.specs.Laws.{length-store, front-past-header, front-past-contents, word-past-clock, clock-same}
 use Rattle.transient.specs.declared.sizes.Sizes.{Sizes}
 use Rattle.transient.specs.Layout.{slotsAt, lastAt, nextUidAt, openAt, headWords, notedSlots, lastTaken, nextUidOf, placeSlot, openEpoch, threadsOk, setPlace}
-use Rattle.transient.specs.Laws.{retired-only, list-only, place-only, slot-set}
+use Rattle.transient.specs.Laws.{FrontKept, front-same, retired-front, emptied-front, place-long, place-noted, place-last, place-uid, place-opens, slot-set}
 use Rattle.transient.specs.Store.{Store, store, tableOf, sizesOf, Outcome, afterCheck}
 use Rattle.transient.specs.Entry.{imagesFit, notesFit, sizesFit, openOk, opensOk, clocksFit, entryCheck}
 use Rattle.transient.specs.Requires.{EnteredWith, notes-after}
@@ -63,8 +63,7 @@ module _ (l : List ℕ) where
 record Steady (z : Sizes) (st : Store) (x : Stepped) : Type 0 where
   working : Alike (st .working) (x .store .working)
   persistent : Alike (st .persistent) (x .store .persistent)
-  long : length (x .store .transient) ≡ length (st .transient)
-  notes : (j : ℕ) → j < headWords + z .t → getD (x .store .transient) j 0 ≡ getD (st .transient) j 0
+  notes : FrontKept z (st .transient) (x .store .transient)
 
 -- a step goes on with the clocks as they were, or ticks and both are one higher
 data Clocked (st : Store) (c : ℕ) (x : Stepped) : Type 0 where
@@ -79,9 +78,8 @@ module _ (z : Sizes) (st : Store) (c : ℕ) (long : 3 ≤ length (st .working)) 
   reclaim-kept : (s : ℕ) → Kept z st c (reclaimed z st s)
   unfolding reclaimed
   reclaim-kept s =
-      let o = retired-only (st .transient) z s 0 in
       record {
-        steady = record { working = header-alike (st .working) s _; persistent = header-alike (st .persistent) s _; long = o .long; notes = λ j h. o .words j (inl (omega arith)) };
+        steady = record { working = header-alike (st .working) s _; persistent = header-alike (st .persistent) s _; notes = retired-front (st .transient) z s 0 };
         clocked = on refl (front-past-header (st .working) s 2 _ (omega arith)) (front-past-header (st .persistent) s 2 _ (omega arith));
       }
 
@@ -89,7 +87,7 @@ module _ (z : Sizes) (st : Store) (c : ℕ) (long : 3 ≤ length (st .working)) 
   unfolding contentsFlushed
   contents-kept s =
       record {
-        steady = record { working = unchanged (st .working); persistent = contents-alike (st .persistent) (z .n) (z .w) s _; long = refl; notes = λ j h. refl };
+        steady = record { working = unchanged (st .working); persistent = contents-alike (st .persistent) (z .n) (z .w) s _; notes = front-same };
         clocked = on refl refl (front-past-contents (st .persistent) (z .n) (z .w) s 2 _ (omega arith));
       }
 
@@ -97,16 +95,15 @@ module _ (z : Sizes) (st : Store) (c : ℕ) (long : 3 ≤ length (st .working)) 
   unfolding headerFlushed
   header-kept s =
       record {
-        steady = record { working = unchanged (st .working); persistent = header-alike (st .persistent) s _; long = refl; notes = λ j h. refl };
+        steady = record { working = unchanged (st .working); persistent = header-alike (st .persistent) s _; notes = front-same };
         clocked = on refl refl (front-past-header (st .persistent) s 2 _ (omega arith));
       }
 
   tick-kept : Kept z st c (ticking z st c)
   unfolding ticking
   tick-kept =
-      let o = list-only (st .transient) z (c - 1) in
       record {
-        steady = record { working = clock-alike (st .working) (c + 1); persistent = clock-alike (st .persistent) (c + 1); long = o .long; notes = λ j h. o .words j (inl (omega arith)) };
+        steady = record { working = clock-alike (st .working) (c + 1); persistent = clock-alike (st .persistent) (c + 1); notes = emptied-front (st .transient) z (c - 1) };
         clocked = tick refl (clock-same (st .working) (c + 1) long) (clock-same (st .persistent) (c + 1) also);
       }
 
@@ -181,7 +178,7 @@ module _ (st : Store) (x : Stepped) (ok : entryCheck st ≡ Accepted) (s : Stead
   tr = noted x .store .transient
 
   long : length tr ≡ length (st .transient)
-  long = place-only (x .store .transient) _ _ .long ∙ s .long
+  long = place-long (x .store .transient) (sizesOf (tableOf st)) _ _ ∙ s .notes .head .long
 
   threads-is : sizesOf (tableOf (noted x .store)) .t ≡ sizesOf (tableOf st) .t
   unfolding sizesOf
@@ -189,23 +186,23 @@ module _ (st : Store) (x : Stepped) (ok : entryCheck st ≡ Accepted) (s : Stead
 
   -- the place alone was written
   slots-is : notedSlots tr ≡ notedSlots (st .transient)
-  slots-is = place-only (x .store .transient) _ _ .words slotsAt (inl (omega arith)) ∙ s .notes slotsAt (omega arith)
+  slots-is = place-noted (x .store .transient) (sizesOf (tableOf st)) _ _ ∙ s .notes .noted
 
   last-is : lastTaken tr ≡ lastTaken (st .transient)
-  last-is = place-only (x .store .transient) _ _ .words lastAt (inl (omega arith)) ∙ s .notes lastAt (omega arith)
+  last-is = place-last (x .store .transient) (sizesOf (tableOf st)) _ _ ∙ s .notes .last
 
   uid-is : nextUidOf tr ≡ nextUidOf (st .transient)
-  uid-is = place-only (x .store .transient) _ _ .words nextUidAt (inl (omega arith)) ∙ s .notes nextUidAt (omega arith)
+  uid-is = place-uid (x .store .transient) (sizesOf (tableOf st)) _ _ ∙ s .notes .uid
 
   place-is : placeSlot tr ≡ x .place .slot
   place-is =
       let y = entry-with (st .working) (st .persistent) (st .transient) ok .entered .shaped .notes in
-      slot-set (notes-after (s .long) y) (x .place .phase) (x .place .slot)
+      slot-set (notes-after (s .notes .head .long) y) (x .place .phase) (x .place .slot)
 
   none-after : (u : ℕ) → u < sizesOf (tableOf (noted x .store)) .t → openEpoch tr u ≡ 0
   none-after u h =
       let k : u < sizesOf (tableOf st) .t = rw threads-is at h in
-      place-only (x .store .transient) _ _ .words (openAt u) (inr (omega arith)) ∙ s .notes (openAt u) (omega arith) ∙ none u k
+      place-opens (x .store .transient) (sizesOf (tableOf st)) _ _ u ∙ s .notes .head .opens u k ∙ none u k
 
   sizes-after : sizesFit (x .store .working) (x .store .persistent) tr ≡ true
   unfolding sizesFit notesFit

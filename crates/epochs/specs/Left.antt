@@ -17,7 +17,7 @@ use Rattle.image.specs.Layout.{slotsOf, clockOf, freeHeader}
 use Rattle.image.specs.Laws.{front-past-header, word-past-clock}
 use Rattle.transient.specs.declared.sizes.Sizes.{Sizes}
 use Rattle.transient.specs.Layout.{placePhase, placeSlot}
-use Rattle.transient.specs.Laws.{retired-only, list-only, phase-set, slot-set}
+use Rattle.transient.specs.Laws.{retired-front, emptied-front, phase-set, slot-set}
 use Rattle.transient.specs.Store.{Store, Table, tableOf, sizesOf, Outcome}
 use Rattle.transient.specs.Requires.{Notes, notes-after}
 use Rattle.transient.specs.Passed.{entry-with}
@@ -96,7 +96,7 @@ module _ (z : Sizes) (st : Store) (c most : ℕ) where
       let y = passed (z .n) s reclaimNext contentsNext most (b .below) (λ u. omega arith) (omega arith) in
       record {
         slots = front-past-header (st .working) s 0 freeHeader (omega arith);
-        long = retired-only (st .transient) z s 0 .long;
+        long = retired-front (st .transient) z s 0 .head .long;
         within = y .within;
         on = λ _. y .less;
         tick = λ e. different e;
@@ -113,7 +113,7 @@ module _ (z : Sizes) (st : Store) (c most : ℕ) where
   goes-ticking h =
       record {
         slots = word-past-clock (st .working) (c + 1) 0 (λ e. omega arith);
-        long = list-only (st .transient) z (c - 1) .long;
+        long = emptied-front (st .transient) z (c - 1) .head .long;
         within = h;
         on = λ e. different (sym e);
         tick = λ _. refl;

@@ -8,7 +8,7 @@ use mathlib.Core.List.{List}
 use Rattle.transient.specs.declared.sizes.Sizes.{Sizes}
 use Rattle.transient.specs.Layout.{nextUidOf, retiredIn, isWaiting, setLast, setNextUid, setRetired, setWaiting}
 use Rattle.transient.specs.Requires.{Notes, notes-after}
-use Rattle.transient.specs.Laws.{HeadKept, SlotKept, head-then, slot-then, last-head, last-slots, last-uid, uid-head, uid-slots, retired-head, retired-uid, waiting-head, waiting-uid, uid-set, retired-same, retired-waiting, retired-aside, waiting-joined, waiting-stays, waiting-retired, waiting-aside}
+use Rattle.transient.specs.Laws.{HeadKept, SlotKept, head-then, slot-then, last-head, last-slots, last-uid, uid-head, uid-slots, retired-front, waiting-front, uid-set, retired-same, retired-waiting, retired-aside, waiting-joined, waiting-stays, waiting-retired, waiting-aside}
 use Rattle.table.specs.Fill.{joined, taken}
 
 pub record Joined (sz : Sizes) (tr tr′ : List ℕ) (e s r u : ℕ) : Type 0 where
@@ -23,27 +23,27 @@ module _ {tr : List ℕ} {sz : Sizes} (y : Notes tr sz) (e s : ℕ) (h : s < sz 
   pub waiting-joins : Joined sz tr (setWaiting sz tr e s) e s (retiredIn sz tr s) (nextUidOf tr)
   waiting-joins =
       record {
-        head = waiting-head tr sz e s;
+        head = waiting-front tr sz e s .head;
         others = λ m k d. waiting-aside y e s m h k d;
         retired = waiting-retired y e s s h;
         joins = waiting-joined y e s h;
         stays = λ d q. waiting-stays y e s d h q;
-        uid = waiting-uid tr sz e s;
+        uid = waiting-front tr sz e s .uid;
       }
 
   pub joined-joins : Joined sz tr (joined sz tr e s) e s 0 (nextUidOf tr)
   unfolding joined
   joined-joins =
       let tr′ = setRetired sz tr s 0 in
-      let a = retired-head tr sz s 0 in
+      let a = retired-front tr sz s 0 .head in
       let y′ : Notes tr′ sz = notes-after (a .long) y in
       record {
-        head = head-then a (waiting-head tr′ sz e s);
+        head = head-then a (waiting-front tr′ sz e s .head);
         others = λ m k d. slot-then (retired-aside y s 0 m h d) (waiting-aside y′ e s m h k d);
         retired = waiting-retired y′ e s s h ∙ retired-same y s 0 h;
         joins = waiting-joined y′ e s h;
         stays = λ d q. waiting-stays y′ e s d h (retired-waiting y s 0 d s h ∙ q);
-        uid = waiting-uid tr′ sz e s ∙ retired-uid tr sz s 0;
+        uid = waiting-front tr′ sz e s .uid ∙ retired-front tr sz s 0 .uid;
       }
 
 module _ {tr : List ℕ} {sz : Sizes} (y : Notes tr sz) (e s : ℕ) (h : s < sz .n) where

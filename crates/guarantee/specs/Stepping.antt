@@ -16,7 +16,7 @@ use Rattle.transient.specs.declared.sizes.Sizes.{Sizes}
 use Rattle.transient.specs.Layout.{nextUidOf, openEpoch, retiredIn, isWaiting, setRetired, setPlace}
 use Rattle.transient.specs.Store.{Store, store}
 use Rattle.transient.specs.Requires.{Notes, notes-after}
-use Rattle.transient.specs.Laws.{SlotKept, slot-then, place-long, place-opens, place-slots, place-uid, retired-head, retired-uid, retired-same, retired-waiting, retired-aside, phase-set, slot-set}
+use Rattle.transient.specs.Laws.{SlotKept, slot-then, place-long, place-opens, place-slots, place-uid, retired-front, retired-same, retired-waiting, retired-aside, phase-set, slot-set}
 use Rattle.epochs.specs.Advance.{idle, reclaimNext, contentsNext, headerNext, clockNext, passing}
 use Rattle.crash.specs.Table.{Put}
 use Rattle.crash.specs.Reference.{Jobs}
@@ -109,11 +109,11 @@ noted-place sz tr s phase slot =
 pub noted-cleared : {tr : List ℕ} {sz : Sizes} → Notes tr sz → (s phase slot : ℕ) → s < sz .n → Noted sz tr (setPlace (setRetired sz tr s 0) phase slot) s 0
 noted-cleared {tr} {sz} y s phase slot h =
     let z = noted-place sz (setRetired sz tr s 0) s phase slot in
-    let a = retired-head tr sz s 0 in
+    let a = retired-front tr sz s 0 .head in
     record {
       long = z .long ∙ a .long;
       opens = λ u k. z .opens u k ∙ a .opens u k;
-      uid = z .uid ∙ retired-uid tr sz s 0;
+      uid = z .uid ∙ retired-front tr sz s 0 .uid;
       others = λ m d. slot-then (retired-aside y s 0 m h d) (z .others m d);
       waiting = λ d. z .waiting d ∙ retired-waiting y s 0 d s h;
       retired = z .retired ∙ retired-same y s 0 h;

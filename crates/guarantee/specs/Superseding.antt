@@ -16,7 +16,7 @@ use Rattle.transient.specs.declared.sizes.Sizes.{Sizes}
 use Rattle.transient.specs.Layout.{lastTaken, nextUidOf, openEpoch, isWaiting, setRetired}
 use Rattle.transient.specs.Store.{Store, store, table}
 use Rattle.transient.specs.Requires.{Notes, notes-after}
-use Rattle.transient.specs.Laws.{HeadKept, head-then, retired-head, retired-uid, retired-same, retired-waiting, retired-aside}
+use Rattle.transient.specs.Laws.{HeadKept, head-then, retired-front, retired-same, retired-waiting, retired-aside}
 use Rattle.table.specs.Find.{freeAt, room}
 use Rattle.table.specs.Fill.{filledSlot, taken}
 use Rattle.jobs.specs.Job.{superseded}
@@ -87,10 +87,10 @@ module _ {sz : Sizes} {start : Jobs} {st : Store} {p : Plain} (g : Good sz start
   over-put = view-put2 st nd sz c f s _ _ k i apart first second rest
 
   pub over-head : HeadKept sz (st .transient) (setRetired sz tr′ s e)
-  over-head = head-then (j .head) (retired-head tr′ sz s e)
+  over-head = head-then (j .head) (retired-front tr′ sz s e .head)
 
   pub over-uid : nextUidOf (setRetired sz tr′ s e) ≡ u
-  over-uid = retired-uid tr′ sz s e ∙ j .uid
+  over-uid = retired-front tr′ sz s e .uid ∙ j .uid
 
 -- the step with the uid and the name as the call has them
 over-as : {kind : ℕ} {act : Act} {e s r : ℕ} {v u : Value} {now before : ℕ} {st : State} {f : ℕ → Slot} {uid : ℕ} {k : Name} → Inv st

@@ -12,7 +12,7 @@ use Rattle.transient.specs.declared.sizes.Sizes.{Sizes}
 use Rattle.transient.specs.Layout.{nextUidOf, openEpoch, retiredIn, isWaiting, setPlace, emptied}
 use Rattle.transient.specs.Store.{Store, store}
 use Rattle.transient.specs.Requires.{Notes, notes-after}
-use Rattle.transient.specs.Laws.{SlotKept, waiting-again, place-long, place-opens, place-slots, place-uid, emptied-head, emptied-uid, emptied-none, emptied-next, emptied-retired, phase-set, slot-set}
+use Rattle.transient.specs.Laws.{SlotKept, waiting-again, place-long, place-opens, place-slots, place-uid, emptied-front, emptied-none, emptied-next, emptied-retired, phase-set, slot-set}
 use Rattle.epochs.specs.Advance.{Stepped, idle, ticking, underway, noted}
 use Rattle.crash.specs.Reference.{Jobs}
 use Rattle.crash.specs.Slots.{Swept, Flushed}
@@ -77,10 +77,10 @@ module _ {sz : Sizes} {start : Jobs} {st : Store} {p : Plain} (y : Ready sz star
   retired-kept s h = placed s .retired ∙ emptied-retired (y .good .notes) (c - 1) s h
 
   open-kept : (thread : ℕ) → thread < sz .t → openEpoch notes′ thread ≡ openEpoch (st .transient) thread
-  open-kept u h = place-opens list sz idle 0 u ∙ emptied-head (st .transient) sz (c - 1) .opens u h
+  open-kept u h = place-opens list sz idle 0 u ∙ emptied-front (st .transient) sz (c - 1) .head .opens u h
 
   uid-same : nextUidOf notes′ ≡ nextUidOf (st .transient)
-  uid-same = place-uid list sz idle 0 ∙ emptied-uid (st .transient) sz (c - 1)
+  uid-same = place-uid list sz idle 0 ∙ emptied-front (st .transient) sz (c - 1) .uid
 
   -- the table: the lists move on
   all : (s : ℕ) → view st′ sz (suc c) s ≡ ticked (view st sz c s)
@@ -118,7 +118,7 @@ module _ {sz : Sizes} {start : Jobs} {st : Store} {p : Plain} (y : Ready sz star
     tick-good =
         let g = y .good in
         let o = g .opens in
-        let v : Notes list sz = notes-after (emptied-head (st .transient) sz (c - 1) .long) (g .notes) in
+        let v : Notes list sz = notes-after (emptied-front (st .transient) sz (c - 1) .head .long) (g .notes) in
         record {
           clock-hi = omega (arith, y .clock-top);
           working = clock-image (g .working);

@@ -1,6 +1,6 @@
 -- Get/set laws of the notes, by name: what each writer leaves in its own note, and that the other notes stay.
 use Prim.Native.Nat.{ℕ, _+_, _-_, _%_, _≤_, _<_}
-use mathlib.Core.Path.{_≡_, _∙_, ap}
+use mathlib.Core.Path.{_≡_, refl, _∙_, ap}
 use mathlib.Core.Logic.{_≢_, _⊎_, inl, inr, ⊎-elim}
 use mathlib.Core.Bool.{true, false}
 use mathlib.Core.List.{List}
@@ -13,7 +13,7 @@ use native.Mathlib.Decide.{ℕ-discrete, decLt}
 use Rattle.search.specs.Bools.{cases, and-left}
 use Rattle.image.specs.Laws.{length-stored, stored-outside, stored-inside}
 use Rattle.transient.specs.declared.sizes.Sizes.{Sizes}
-use Rattle.transient.specs.Layout.{slotsAt, lastAt, nextUidAt, phaseAt, placeAt, headWords, openAt, retiredAt, listBase, waitingAt, threadsOf, threadsOk, nextUidOf, placePhase, placeSlot, openEpoch, retiredIn, isWaiting, setLast, setNextUid, setOpen, setRetired, setWaiting, setPlace, emptied, blank}
+use Rattle.transient.specs.Layout.{slotsAt, lastAt, nextUidAt, phaseAt, placeAt, headWords, openAt, retiredAt, listBase, waitingAt, threadsOf, threadsOk, notedSlots, lastTaken, nextUidOf, placePhase, placeSlot, openEpoch, retiredIn, isWaiting, setLast, setNextUid, setOpen, setRetired, setWaiting, setPlace, emptied, blank}
 use Rattle.transient.specs.Requires.{Notes}
 
 -- ---- the two lists
@@ -120,6 +120,16 @@ pub record HeadKept (z : Sizes) (tr tr′ : List ℕ) : Type 0 where
   pub phase : placePhase tr′ ≡ placePhase tr
   pub slot : placeSlot tr′ ≡ placeSlot tr
 
+-- the whole head
+pub record FrontKept (z : Sizes) (tr tr′ : List ℕ) : Type 0 where
+  pub head : HeadKept z tr tr′
+  pub noted : notedSlots tr′ ≡ notedSlots tr
+  pub last : lastTaken tr′ ≡ lastTaken tr
+  pub uid : nextUidOf tr′ ≡ nextUidOf tr
+
+pub front-same : {z : Sizes} {tr : List ℕ} → FrontKept z tr tr
+front-same = record { head = record { long = refl; opens = λ u h. refl; phase = refl; slot = refl }; noted = refl; last = refl; uid = refl }
+
 -- a slot's retirement, and whether it waits in each list
 pub record SlotKept (z : Sizes) (tr tr′ : List ℕ) (m : ℕ) : Type 0 where
   pub retired : retiredIn z tr′ m ≡ retiredIn z tr m
@@ -142,6 +152,11 @@ module _ {tr tr′ : List ℕ} {at k : ℕ} (o : Only tr tr′ at k) where
         phase = o .words phaseAt (⊎-elim (λ q. inr q) (λ q. inl (omega arith)) c);
         slot = o .words placeAt (⊎-elim (λ q. inr (omega arith)) (λ q. inl (omega arith)) c);
       }
+
+  -- what is written among the slots leaves the whole head
+  front-kept : (z : Sizes) → headWords + z .t ≤ at → FrontKept z tr tr′
+  front-kept z h =
+      record { head = head-kept z (inr h); noted = o .words slotsAt (inl (omega arith)); last = o .words lastAt (inl (omega arith)); uid = o .words nextUidAt (inl (omega arith)) }
 
   -- what is written before the slots leaves every slot's
   slot-kept : (z : Sizes) → at + k ≤ headWords + z .t → (m : ℕ) → SlotKept z tr tr′ m
@@ -196,29 +211,26 @@ module _ (tr : List ℕ) (z : Sizes) where
     pub place-slots : (m : ℕ) → SlotKept z tr (setPlace tr phase slot) m
     place-slots = slot-kept (place-only tr phase slot) z (omega arith)
 
+    pub place-noted : notedSlots (setPlace tr phase slot) ≡ notedSlots tr
+    place-noted = place-only tr phase slot .words slotsAt (inl (omega arith))
+
+    pub place-last : lastTaken (setPlace tr phase slot) ≡ lastTaken tr
+    place-last = place-only tr phase slot .words lastAt (inl (omega arith))
+
     pub place-uid : nextUidOf (setPlace tr phase slot) ≡ nextUidOf tr
     place-uid = uid-kept (place-only tr phase slot) (inr (omega arith))
 
   module _ (s e : ℕ) where
-    pub retired-head : HeadKept z tr (setRetired z tr s e)
-    retired-head = head-kept (retired-only tr z s e) z (inr (omega arith))
-
-    pub retired-uid : nextUidOf (setRetired z tr s e) ≡ nextUidOf tr
-    retired-uid = uid-kept (retired-only tr z s e) (inr (omega arith))
+    pub retired-front : FrontKept z tr (setRetired z tr s e)
+    retired-front = front-kept (retired-only tr z s e) z (omega arith)
 
   module _ (e s : ℕ) where
-    pub waiting-head : HeadKept z tr (setWaiting z tr e s)
-    waiting-head = head-kept (waiting-only tr z e s) z (inr (omega arith))
-
-    pub waiting-uid : nextUidOf (setWaiting z tr e s) ≡ nextUidOf tr
-    waiting-uid = uid-kept (waiting-only tr z e s) (inr (omega arith))
+    pub waiting-front : FrontKept z tr (setWaiting z tr e s)
+    waiting-front = front-kept (waiting-only tr z e s) z (omega arith)
 
   module _ (e : ℕ) where
-    pub emptied-head : HeadKept z tr (emptied z tr e)
-    emptied-head = head-kept (list-only tr z e) z (inr (omega arith))
-
-    pub emptied-uid : nextUidOf (emptied z tr e) ≡ nextUidOf tr
-    emptied-uid = uid-kept (list-only tr z e) (inr (omega arith))
+    pub emptied-front : FrontKept z tr (emptied z tr e)
+    emptied-front = front-kept (list-only tr z e) z (omega arith)
 
 -- ---- blank notes
 pub zeros-at : (k j : ℕ) → _≡_ {A = ℕ} (getD (replicate k 0) j 0) 0
