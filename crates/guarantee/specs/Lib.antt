@@ -27,3 +27,5 @@ pub mod Running
 pub mod Syncs
 pub mod Worked
 pub mod Theorem
+pub mod Stores
+pub mod Ends

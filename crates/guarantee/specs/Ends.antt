@@ -1,0 +1,53 @@
+-- A sync in a run that passes its check reports done, whatever lines the memory writes back before its advance calls.
+use Prim.Native.Nat.{ℕ, zero, suc, _+_, _*_, _≤_, _<_}
+use mathlib.Core.Path.{_≡_, refl}
+use mathlib.Core.List.{List, [], _∷_}
+use native.Mathlib.Omega.{arith}
+use Rattle.reply.specs.declared.Check.the-variants.{Accepted}
+use Rattle.image.specs.Layout.{slotsOf}
+use Rattle.transient.specs.Store.{Store, tableOf}
+use Rattle.epochs.specs.Advance.{advance}
+use Rattle.epochs.specs.Sync.{syncCheck, mostLines}
+use Rattle.epochs.specs.Left.{advance-moves, budget, budget-top, budget-low, budget-on, budget-tick}
+use Rattle.epochs.specs.Kept.{Quiet, check-quiet, quiet-place, Onward, went, ticked, advance-quiet, quiet-back, back-same}
+use Rattle.guarantee.specs.Trace.{LineCode, Moment, moment, afterLines, afterLine, toldAdvance, goingOn, afterAdvance, syncing, syncs, through}
+
+-- the reference map has heard of it
+pub record Ended (m : Moment) : Type 0 where
+  pub done : m .plain .durable ≡ m .plain .ended
+
+-- a store on which a sync is underway, with calls enough for so many ticks
+record Underway (more ticks : ℕ) (st : Store) : Type 0 where
+  quiet : Quiet ticks st
+  enough : budget (tableOf st) ticks ≤ more
+
+lines-underway : (more ticks : ℕ) (ks : List LineCode) (m : Moment) → Underway more ticks (m .store) → Underway more ticks (afterLines ks m .last .store)
+unfolding afterLines afterLine
+lines-underway more ticks [] m u = u
+lines-underway more ticks (k ∷ ks) m u =
+    lines-underway more ticks ks (afterLine k m)
+    (record { quiet = quiet-back ticks (m .store) (k .slot) (k .code) (u .quiet); enough = rw (back-same (m .store) (k .slot) (k .code)) (u .enough) })
+
+syncing-ends : (more ticks k : ℕ) (lines : ℕ → List LineCode) (m : Moment) → Underway more ticks (m .store) → Ended (syncing more ticks k lines m .last)
+unfolding syncing afterAdvance
+syncing-ends more zero k lines m u = record { done = refl }
+syncing-ends zero (suc ticks) k lines m u = absurd (omega (arith, u .enough, budget-low (tableOf (m .store)) ticks (quiet-place (u .quiet))))
+syncing-ends (suc more) (suc ticks) k lines m u =
+    go (advance-quiet ticks (x .store) (v .quiet)) (syncing-ends more (suc ticks) (suc k) lines) (syncing-ends more ticks (suc k) lines)
+  where
+    x : Moment
+    x = afterLines (lines k) m .last
+
+    v : Underway (suc more) (suc ticks) (x .store)
+    v = lines-underway (suc more) (suc ticks) (lines k) m u
+
+    go : Onward ticks (x .store) → ((y : Moment) → Underway more (suc ticks) (y .store) → Ended (syncing more (suc ticks) (suc k) lines y .last))
+        → ((y : Moment) → Underway more ticks (y .store) → Ended (syncing more ticks (suc k) lines y .last))
+        → Ended (goingOn (advance (x .store) .reply) (syncing more (suc ticks) (suc k) lines) (syncing more ticks (suc k) lines) (moment (advance (x .store) .store) (toldAdvance (advance (x .store) .reply) (x .plain))) .last)
+    go (went r q) a b = rw r (a _ (record { quiet = q; enough = omega (arith, v .enough, budget-on (advance-moves (x .store)) ticks r) }))
+    go (ticked r q) a b = rw r (b _ (record { quiet = q; enough = omega (arith, v .enough, budget-tick (advance-moves (x .store)) ticks r) }))
+
+pub sync-ends : (lines : ℕ → List LineCode) (m : Moment) → syncCheck (m .store) ≡ Accepted → Ended (through (syncs lines) m .last)
+unfolding through
+sync-ends lines m a =
+    rw a (syncing-ends (2 * mostLines (slotsOf (m .store .working))) 2 0 lines m (record { quiet = check-quiet (m .store) a; enough = budget-top (tableOf (m .store)) }))
