@@ -1,1 +1,3 @@
-pub mod Code
+pub mod Delete
+pub mod Keeps
+pub mod Exits

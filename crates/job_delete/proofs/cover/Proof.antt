@@ -1,16 +1,23 @@
 -- `cover`: each way out is a law.
 use borrow.Author.Needs.{needs}
-use Rattle.change_delete.specs.Code.{laws}
-use Rattle.change_delete.proofs.cover.Statement.{statement}
-use Rattle.change_delete.proofs.cover.Tie as tie
+use Rattle.job_delete.specs.Exits.{laws}
+use Rattle.job_delete.proofs.cover.Statement.{statement}
+use Rattle.job_delete.proofs.cover.Tie as tie
 
 pub cover-spec : {M : Type 1} → statement M
 cover-spec =
     tie.close
     (tie.spec
     (λ c κs. search (needs, laws))
+    (λ c. search (needs, laws))
     (λ c κs. search (needs, laws))
     (λ c κs. search (needs, laws))
+    (λ c κs. search (needs, laws))
+    (λ c κs. search (needs, laws))
+    (λ c. search (needs, laws))
+    (λ c. search (needs, laws))
+    (λ c. search (needs, laws))
+    (λ c. search (needs, laws))
     (λ c. search (needs, laws))
     (λ c. search (needs, laws))
     (λ c. search (needs, laws)))

@@ -1,8 +1,8 @@
 -- `delete`: each way out is a law.
 use borrow.Author.Needs.{needs}
-use Rattle.change_delete.specs.Code.{laws}
-use Rattle.change_delete.proofs.delete.Statement.{statement}
-use Rattle.change_delete.proofs.delete.Tie as tie
+use Rattle.job_delete.specs.Exits.{laws}
+use Rattle.job_delete.proofs.delete.Statement.{statement}
+use Rattle.job_delete.proofs.delete.Tie as tie
 
 pub delete-spec : {M : Type 1} → statement M
 delete-spec =

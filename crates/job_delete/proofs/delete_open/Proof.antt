@@ -1,8 +1,8 @@
 -- `delete_open`: each way out is a law.
 use borrow.Author.Needs.{needs}
-use Rattle.change_delete.specs.Code.{laws}
-use Rattle.change_delete.proofs.delete_open.Statement.{statement}
-use Rattle.change_delete.proofs.delete_open.Tie as tie
+use Rattle.job_delete.specs.Exits.{laws}
+use Rattle.job_delete.proofs.delete_open.Statement.{statement}
+use Rattle.job_delete.proofs.delete_open.Tie as tie
 
 pub delete-open-spec : {M : Type 1} → statement M
 delete-open-spec =

@@ -1,0 +1,3 @@
+pub mod Operation
+pub mod Keeps
+pub mod Exits

@@ -1,0 +1,16 @@
+-- `read_refusal`: each way out is a law.
+use borrow.Author.Needs.{needs}
+use Rattle.job_read.specs.Exits.{values}
+use Rattle.job_read.proofs.read_refusal.Statement.{statement}
+use Rattle.job_read.proofs.read_refusal.Tie as tie
+
+pub read-refusal-spec : {M : Type 1} → statement M
+read-refusal-spec =
+    tie.close
+    (tie.spec
+    (λ c κs. search (needs, values))
+    (λ c. search (needs, values))
+    (λ c. search (needs, values))
+    (λ c κs. search (needs, values))
+    (λ c. search (needs, values))
+    (λ c. search (needs, values)))
