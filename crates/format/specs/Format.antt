@@ -1,6 +1,6 @@
 -- 01: "A fresh store has clock 2, every other word after word 1 zero, next uid 1, nothing open, retired, waiting or underway."
 use Prim.Native.Nat.{ℕ}
-use mathlib.Core.Bool.{Bool, cond, not, _&&_}
+use mathlib.Core.Bool.{Bool, not, _&&_}
 use mathlib.Core.List.{List}
 use lib.ListN.{length, set, replicate}
 use lib.Dec.{eqb}

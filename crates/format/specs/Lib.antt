@@ -1,0 +1,4 @@
+pub mod Format
+pub mod Requires
+pub mod Keeps
+pub mod Exits
