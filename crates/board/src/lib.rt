@@ -1,5 +1,5 @@
 // The public calls, for C: include/board.h is their C view. None requires anything: bad input is refused.
-pub mod jobs;
+pub mod on_jobs;
 pub mod lengths;
 pub mod persist;
 pub mod questions;

@@ -57,7 +57,7 @@ pub extern "C" fn board_write_back(
 ) -> u32
     ensures { λ r. ⌜ outcome r (now (working .entry)) (now (persistent .exit)) (now (transient .entry)) ≡ numbered checkNumber (writeBack (store (now (working .entry)) (now (persistent .entry)) (now (transient .entry))) slot line) ⌝ }
 {
-    crate::jobs::reply_number(epochs::write_back::write_back(
+    crate::on_jobs::reply_number(epochs::write_back::write_back(
         working,
         persistent,
         transient,

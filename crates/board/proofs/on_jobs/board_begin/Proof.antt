@@ -1,8 +1,8 @@
 -- `board_begin`: each way out is a law.
 use borrow.Author.Needs.{needs}
 use Rattle.board.specs.Exits.{laws}
-use Rattle.board.proofs.jobs.board_begin.Statement.{statement}
-use Rattle.board.proofs.jobs.board_begin.Tie as tie
+use Rattle.board.proofs.on_jobs.board_begin.Statement.{statement}
+use Rattle.board.proofs.on_jobs.board_begin.Tie as tie
 
 pub board-begin-spec : {M : Type 1} → statement M
 board-begin-spec =

@@ -1,8 +1,8 @@
 -- `board_format`: each way out is a law.
 use borrow.Author.Needs.{needs}
 use Rattle.board.specs.Exits.{laws}
-use Rattle.board.proofs.jobs.board_format.Statement.{statement}
-use Rattle.board.proofs.jobs.board_format.Tie as tie
+use Rattle.board.proofs.on_jobs.board_format.Statement.{statement}
+use Rattle.board.proofs.on_jobs.board_format.Tie as tie
 
 pub board-format-spec : {M : Type 1} → statement M
 board-format-spec =

@@ -1,11 +1,11 @@
--- `board_set`: each way out is a law.
+-- `board_new`: each way out is a law.
 use borrow.Author.Needs.{needs}
 use Rattle.board.specs.Exits.{laws}
-use Rattle.board.proofs.jobs.board_set.Statement.{statement}
-use Rattle.board.proofs.jobs.board_set.Tie as tie
+use Rattle.board.proofs.on_jobs.board_new.Statement.{statement}
+use Rattle.board.proofs.on_jobs.board_new.Tie as tie
 
-pub board-set-spec : {M : Type 1} → statement M
-board-set-spec =
+pub board-new-spec : {M : Type 1} → statement M
+board-new-spec =
     tie.close
     (tie.spec
     (λ c κs. search (needs, laws))

@@ -1,8 +1,8 @@
 -- `board_end`: each way out is a law.
 use borrow.Author.Needs.{needs}
 use Rattle.board.specs.Exits.{laws}
-use Rattle.board.proofs.jobs.board_end.Statement.{statement}
-use Rattle.board.proofs.jobs.board_end.Tie as tie
+use Rattle.board.proofs.on_jobs.board_end.Statement.{statement}
+use Rattle.board.proofs.on_jobs.board_end.Tie as tie
 
 pub board-end-spec : {M : Type 1} → statement M
 board-end-spec =
