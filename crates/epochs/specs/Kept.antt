@@ -2,12 +2,12 @@
 -- sync that is accepted never declines in the middle: with no operation open each of its advance calls is accepted, and the
 -- bound on their number is never used up, so it reports done.
 use Prim.Native.Nat.{ℕ, zero, suc, _+_, _*_, _-_, _≤_, _<_}
-use mathlib.Core.Path.{_≡_, refl, ap, _∙_}
-use mathlib.Core.Bool.{Bool, true, false, not, _&&_, _||_}
+use mathlib.Core.Path.{_≡_, refl, _∙_}
+use mathlib.Core.Bool.{Bool, true, false, not, _&&_}
 use mathlib.Core.Logic.{inl, inr}
 use mathlib.Core.List.{List}
 use lib.ListN.{length, getD}
-use lib.Dec.{leb, ltb, eqb}
+use lib.Dec.{ltb, eqb}
 use borrow.Author.Tests.{le-leb, lt-ltb, eq-eqb, ne-eqb, eqb-true, ltb-false, not-false}
 use native.Mathlib.Omega.{arith}
 use Rattle.search.specs.Bools.{and-left, and-right, and-both}
@@ -15,14 +15,14 @@ use Rattle.search.specs.Some.{some, some-none, none-some, at-every}
 use Rattle.reply.specs.declared.Check.{Check}
 use Rattle.reply.specs.declared.Check.the-variants.{Accepted, Refused}
 use Rattle.reply.specs.declared.Refusal.{Refusal}
-use Rattle.reply.specs.declared.Refusal.the-variants.{BadSizes, BadClock, StillOpen, LastEpoch, NoLine}
+use Rattle.reply.specs.declared.Refusal.the-variants.{BadSizes, BadClock, StillOpen, LastEpoch}
 use Rattle.reply.specs.Refusals.{refuse, not-refused, both-accepted}
 use Rattle.image.specs.declared.header.Header.{Header}
 use Rattle.image.specs.Layout.{mostNumber, slotsOf, widthOf, clockOf, shapeOk, clockOk}
 use Rattle.image.specs.Line.{headerLine, contentsLine, clockLine, storeLine}
 use Rattle.image.specs.Laws.{length-store, front-past-header, front-past-contents, word-past-clock, clock-same}
 use Rattle.transient.specs.declared.sizes.Sizes.{Sizes}
-use Rattle.transient.specs.Layout.{slotsAt, lastAt, nextUidAt, openAt, headWords, notedSlots, lastTaken, nextUidOf, placeSlot, openEpoch, threadsOk, setPlace}
+use Rattle.transient.specs.Layout.{slotsAt, lastAt, nextUidAt, openAt, headWords, notedSlots, lastTaken, nextUidOf, placeSlot, openEpoch, threadsOk}
 use Rattle.transient.specs.Laws.{retired-only, list-only, place-only, slot-set}
 use Rattle.transient.specs.Store.{Store, store, tableOf, sizesOf, Outcome, afterCheck}
 use Rattle.transient.specs.Entry.{imagesFit, notesFit, sizesFit, openOk, opensOk, clocksFit, entryCheck}
@@ -37,7 +37,7 @@ use Rattle.epochs.specs.Sync.{anyOpen, syncCheck, byReply, advances, mos
 use Rattle.epochs.specs.WriteBack.{writeBack}
 use Rattle.epochs.specs.Moved.{notedPlace}
 use Rattle.epochs.specs.Ways.{every-way, nextStep, advance-way, back-way}
-use Rattle.epochs.specs.Left.{step-goes, Moves, advance-moves, budget, budget-top, budget-low, budget-on, budget-tick}
+use Rattle.epochs.specs.Left.{step-goes, advance-moves, budget, budget-top, budget-low, budget-on, budget-tick}
 
 -- ---- what a line leaves of an image: its length and its sizes
 record Alike (l l′ : List ℕ) : Type 0 where
