@@ -3,7 +3,7 @@ use Prim.Native.Nat.{ℕ}
 use mathlib.Core.Bool.{Bool, not, _&&_, _||_}
 use mathlib.Core.List.{List}
 use lib.Dec.{leb, eqb}
-use Rattle.search.specs.Some.{some, every}
+use Rattle.search.specs.Some.{anyOf, every}
 use Rattle.reply.specs.declared.Check.{Check}
 use Rattle.reply.specs.declared.Check.the-variants.{Accepted}
 use Rattle.reply.specs.declared.Refusal.the-variants.{BadSizes, BadClock, BadSlot, Duplicate}
@@ -32,7 +32,7 @@ unfoldable pub allProper : List ℕ → ℕ → Bool
 allProper l n = every (λ s. proper (clockOf l) (header l s)) n
 
 unfoldable pub someNameless : List ℕ → ℕ → ℕ → Bool
-someNameless l n w = some (nameless l n w) n
+someNameless l n w = anyOf (nameless l n w) n
 
 -- a kept header g with the uid and epoch of h
 unfoldable pub sameVersion : ℕ → Header → Header → Bool
@@ -44,10 +44,10 @@ versionIn c h l t = sameVersion c h (header l t)
 
 -- "two kept slots equal in uid and label": slot s is kept, and some slot below it is of the same version
 unfoldable pub versionBelow : ℕ → (ℕ → Header) → ℕ → Bool
-versionBelow c hs s = kept c (hs s) && some (λ t. sameVersion c (hs s) (hs t)) s
+versionBelow c hs s = kept c (hs s) && anyOf (λ t. sameVersion c (hs s) (hs t)) s
 
 unfoldable pub versionTwice : List ℕ → ℕ → Bool
-versionTwice l n = some (versionBelow (clockOf l) (header l)) n
+versionTwice l n = anyOf (versionBelow (clockOf l) (header l)) n
 
 -- a survivor of that name
 unfoldable pub survivesAs : List ℕ → ℕ → ℕ → Name → ℕ → Bool
@@ -55,10 +55,10 @@ survivesAs l n w name t = survivor l n t && sameName (nameAt l n w t) name
 
 -- "two survivors equal in key": slot s survives, and so does some slot below it with the same name
 unfoldable pub nameBelow : List ℕ → ℕ → ℕ → ℕ → Bool
-nameBelow l n w s = survivor l n s && some (survivesAs l n w (nameAt l n w s)) s
+nameBelow l n w s = survivor l n s && anyOf (survivesAs l n w (nameAt l n w s)) s
 
 unfoldable pub nameTwice : List ℕ → ℕ → ℕ → Bool
-nameTwice l n w = some (nameBelow l n w) n
+nameTwice l n w = anyOf (nameBelow l n w) n
 
 -- 1: "N, W .. outside its range; image length wrong"; 2: "clock outside 2 to 4,000,000,000"
 unfoldable pub headCheck : List ℕ → Check

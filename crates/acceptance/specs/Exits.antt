@@ -9,7 +9,7 @@ use borrow.Author.Tests.{le-leb, lt-leb, eq-eqb, ne-eqb, eqb-true}
 use native.Mathlib.Omega.{arith}
 use Rattle.search.specs.Bools.{tests, and-left, and-right}
 use Rattle.search.specs.First.{loops as firsts}
-use Rattle.search.specs.Some.{some, every, loops as somes}
+use Rattle.search.specs.Some.{anyOf, every, loops as somes}
 use Rattle.reply.specs.declared.Check.{Check}
 use Rattle.reply.specs.declared.Check.the-variants.{Accepted, Refused}
 use Rattle.reply.specs.declared.Refusal.{Refusal}
@@ -100,7 +100,7 @@ module _ (l : List ℕ) (n w s : ℕ) (flags : List Bool) (z : SlotMarked l n w 
     unfolding survivesAs
     as-no t = rw (← same, t) (sym (and-false (survivor l n s)))
 
-  pub below-named : {key : ℕ} {r : Bool} → getD flags s false ≡ true → key ≡ keyAt l n w s → r ≡ some (survivesAs l n w (jobName key)) s → r ≡ nameBelow l n w s
+  pub below-named : {key : ℕ} {r : Bool} → getD flags s false ≡ true → key ≡ keyAt l n w s → r ≡ anyOf (survivesAs l n w (jobName key)) s → r ≡ nameBelow l n w s
   unfolding nameBelow nameAt
   below-named t e h = rw (flag-is (z .flagged) (z .slot .within) t, ← e) h
 
@@ -108,11 +108,11 @@ module _ (l : List ℕ) (n w s : ℕ) (flags : List Bool) (z : SlotMarked l n w 
   unfolding nameBelow
   below-gone t = rw (flag-is (z .flagged) (z .slot .within) t)
 
-pub some-nameless : (l : List ℕ) (n w : ℕ) {r : Bool} → r ≡ some (nameless l n w) n → r ≡ someNameless l n w
+pub some-nameless : (l : List ℕ) (n w : ℕ) {r : Bool} → r ≡ anyOf (nameless l n w) n → r ≡ someNameless l n w
 unfolding someNameless
 some-nameless l n w e = e
 
-pub name-twice : (l : List ℕ) (n w : ℕ) {r : Bool} → r ≡ some (nameBelow l n w) n → r ≡ nameTwice l n w
+pub name-twice : (l : List ℕ) (n w : ℕ) {r : Bool} → r ≡ anyOf (nameBelow l n w) n → r ≡ nameTwice l n w
 unfolding nameTwice
 name-twice l n w e = e
 
@@ -135,7 +135,7 @@ unfolding versionIn
 version-in c h l t e = e
 
 module _ (c : ℕ) (l : List ℕ) (s : ℕ) {h : Header} {k : Bool} (at : h ≡ header l s) (kp : k ≡ kept c h) where
-  pub below-yes : {r : Bool} → k ≡ true → r ≡ some (versionIn c h l) s → r ≡ versionBelow c (header l) s
+  pub below-yes : {r : Bool} → k ≡ true → r ≡ anyOf (versionIn c h l) s → r ≡ versionBelow c (header l) s
   unfolding versionBelow versionIn
   below-yes e p = rw (← at, ← kp, e) p
 
@@ -143,7 +143,7 @@ module _ (c : ℕ) (l : List ℕ) (s : ℕ) {h : Header} {k : Bool} (at : h ≡ 
   unfolding versionBelow
   below-no e = rw (← at, ← kp, e)
 
-pub version-twice : (l : List ℕ) (n : ℕ) {c : ℕ} {r : Bool} → c ≡ clockOf l → r ≡ some (versionBelow c (header l)) n → r ≡ versionTwice l n
+pub version-twice : (l : List ℕ) (n : ℕ) {c : ℕ} {r : Bool} → c ≡ clockOf l → r ≡ anyOf (versionBelow c (header l)) n → r ≡ versionTwice l n
 unfolding versionTwice
 version-twice l n e h = rw (← e) h
 

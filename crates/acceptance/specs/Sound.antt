@@ -8,7 +8,7 @@ use lib.Dec.{leb, eqb}
 use borrow.Author.Tests.{leb-true, eqb-true, le-leb, eq-eqb, not-false}
 use native.Mathlib.Omega.{arith}
 use Rattle.search.specs.Bools.{cases, and-left, and-right, and-both, or-left, or-right}
-use Rattle.search.specs.Some.{some, some-none, none-some, every, every-at, at-every}
+use Rattle.search.specs.Some.{anyOf, some-none, none-some, every, every-at, at-every}
 use Rattle.reply.specs.declared.Check.the-variants.{Accepted}
 use Rattle.reply.specs.declared.Refusal.the-variants.{BadSizes, BadClock, BadSlot, Duplicate}
 use Rattle.reply.specs.Refusals.{refuse, not-refused, both-accepted}
@@ -28,9 +28,9 @@ pub sound : (l : List ℕ) (n w : ℕ) → slotsCheck l n w ≡ Accepted → Sou
 unfolding slotsCheck allProper someNameless versionTwice nameTwice
 sound l n w e =
     let p = every (λ s. proper (clockOf l) (header l s)) n in
-    let k = some (nameless l n w) n in
-    let v = some (versionBelow (clockOf l) (header l)) n in
-    let y = some (nameBelow l n w) n in
+    let k = anyOf (nameless l n w) n in
+    let v = anyOf (versionBelow (clockOf l) (header l)) n in
+    let y = anyOf (nameBelow l n w) n in
     let one = not-refused (not p || k) BadSlot (refuse (v || y) Duplicate Accepted) e in
     let two = not-refused (v || y) Duplicate Accepted (one .1) in
     record {

@@ -1,6 +1,6 @@
 // Two survivors of one name. A survivor is held only against the slots of the chain of its key.
 ghost use mathlib.Core.Path.{_≡_};
-ghost use Rattle.search.specs.Some.{some};
+ghost use Rattle.search.specs.Some.{anyOf};
 ghost use Rattle.image.specs.Layout.{keyAt};
 ghost use Rattle.image.specs.Name.{jobName};
 ghost use Rattle.chains.specs.Chains.{Linked};
@@ -43,7 +43,7 @@ fn survives_below(
     s: usize,
 ) -> bool
     requires { ⌜ KeyOf (now img) n w s key (now flags) (now below) ⌝ }
-    ensures { λ r. ⌜ r ≡ some (survivesAs (now (img .entry)) n w (jobName key)) s ⌝ }
+    ensures { λ r. ⌜ r ≡ anyOf (survivesAs (now (img .entry)) n w (jobName key)) s ⌝ }
 {
     let mut k = image::shape::wide(below[s]);
     while k != 0 {

@@ -1,7 +1,7 @@
 // Two kept slots of one uid and one epoch. A slot is held only against those of the chain of its uid.
 use image::header::Header;
 ghost use mathlib.Core.Path.{_≡_};
-ghost use Rattle.search.specs.Some.{some};
+ghost use Rattle.search.specs.Some.{anyOf};
 ghost use Rattle.image.specs.Layout.{header};
 ghost use Rattle.image.specs.Requires.{HeaderFits};
 ghost use Rattle.survival.specs.Requires.{Headers, UidsUnlinked};
@@ -26,7 +26,7 @@ fn same_version_at(img: &[u32], n: usize, c: u32, h: Header, t: usize) -> bool
 
 fn same_version_below(img: &[u32], below: &[u32], n: usize, c: u32, h: Header, s: usize) -> bool
     requires { ⌜ VersionOf (now img) n s h (now below) ⌝ }
-    ensures { λ r. ⌜ r ≡ some (versionIn c h (now (img .entry))) s ⌝ }
+    ensures { λ r. ⌜ r ≡ anyOf (versionIn c h (now (img .entry))) s ⌝ }
 {
     let mut k = image::shape::wide(below[s]);
     while k != 0 {

@@ -7,7 +7,7 @@ use lib.ListN.{length, getD}
 use native.Mathlib.Omega.{arith}
 use native.Mathlib.Decide.{ℕ-discrete, decLt}
 use Rattle.search.specs.Bools.{refuted}
-use Rattle.search.specs.Some.{some, some-at, none-some}
+use Rattle.search.specs.Some.{anyOf, some-at, none-some}
 use Rattle.chains.specs.Chains.{spot, Last, Under, Linked}
 
 -- it looks for a slot below m of the number x that passes; it stands at slot k − 1, and at its end where k is 0
@@ -40,7 +40,7 @@ module _ {p : ℕ → Bool} {xs : ℕ → ℕ} {n x m k : ℕ} (z : Chased p xs 
   pub chased-slot : k - 1 < m
   chased-slot = omega (arith, z .low)
 
-  pub chased-hit : {r : Bool} → r ≡ p (k - 1) → r ≡ true → true ≡ some p m
+  pub chased-hit : {r : Bool} → r ≡ p (k - 1) → r ≡ true → true ≡ anyOf p m
   chased-hit e t = sym (some-at p m (k - 1) (omega (arith, z .low)) (sym e ∙ t))
 
   module _ {below : List ℕ} (u : Under xs n n below) where
@@ -71,7 +71,7 @@ module _ {p : ℕ → Bool} {xs : ℕ → ℕ} {n x m k : ℕ} (z : Chased p xs 
           at = w .at;
         }
 
-pub chased-end : {p : ℕ → Bool} {xs : ℕ → ℕ} {n x m k : ℕ} → Chased p xs n x m k → k ≡ 0 → false ≡ some p m
+pub chased-end : {p : ℕ → Bool} {xs : ℕ → ℕ} {n x m k : ℕ} → Chased p xs n x m k → k ≡ 0 → false ≡ anyOf p m
 chased-end {p} {xs} {n} {x} {m} {k} z e = sym (none-some p m (λ t h. z .none t (omega arith) h))
 
 pub ruleset walks = (chased-word, chased-less, chased-hit, chased-next, chased-end)

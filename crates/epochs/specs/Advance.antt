@@ -4,7 +4,7 @@ use mathlib.Core.Bool.{Bool, not, cond, _&&_, _||_}
 use mathlib.Core.List.{List}
 use lib.Dec.{leb, ltb, eqb}
 use Rattle.search.specs.First.{firstOf}
-use Rattle.search.specs.Some.{some}
+use Rattle.search.specs.Some.{anyOf}
 use Rattle.search.specs.declared.Found.{Found}
 use Rattle.search.specs.declared.Found.the-variants.{At, Nothing}
 use Rattle.reply.specs.declared.Check.{Check}
@@ -15,7 +15,7 @@ use Rattle.image.specs.Layout.{mostNumber, payloadKind, header, clockOf, freeHe
 use Rattle.image.specs.Line.{headerLine, clockLine, heldHeader, heldContents, storeLine}
 use Rattle.transient.specs.declared.sizes.Sizes.{Sizes}
 use Rattle.transient.specs.Layout.{placePhase, placeSlot, openEpoch, retiredIn, isWaiting, setRetired, setPlace, emptied}
-use Rattle.transient.specs.Store.{Store, Table, store, tableOf, sizesOf, Outcome, afterCheck}
+use Rattle.transient.specs.Store.{Store, Table, store, tableOf, sizesOf, Outcome, outcome, afterCheck}
 use Rattle.transient.specs.Entry.{entryCheck}
 use Rattle.epochs.specs.declared.Place.{Place}
 use Rattle.epochs.specs.declared.Advance.{Advance}
@@ -117,7 +117,7 @@ underway tr = leb reclaimNext (placePhase tr) && leb (placePhase tr) clockNext
 
 -- an operation open in clock − 1
 unfoldable pub openBelow : List ℕ → ℕ → ℕ → Bool
-openBelow tr t c = some (λ thread. eqb (openEpoch tr thread + 1) c) t
+openBelow tr t c = anyOf (λ thread. eqb (openEpoch tr thread + 1) c) t
 
 -- 14: "advance, none underway: an operation open in clock − 1"; 15: "advance: clock 4,000,000,000"
 unfoldable pub advanceCheck : Sizes → List ℕ → ℕ → Check
@@ -125,11 +125,7 @@ advanceCheck z tr c = refuse (not (underway tr) && openBelow tr (z .t) c) StillO
 
 -- the notes keep the place
 abbrev pub noted : Stepped → Outcome Advance
-noted s =
-    record {
-      reply = s .reply;
-      store = store (s .store .working) (s .store .persistent) (setPlace (s .store .transient) (s .place .phase) (s .place .slot));
-    }
+noted s = outcome (s .reply) (s .store .working) (s .store .persistent) (setPlace (s .store .transient) (s .place .phase) (s .place .slot))
 
 unfoldable pub advanceSized : Sizes → Store → Outcome Advance
 advanceSized z st =

@@ -2,20 +2,20 @@
 -- sync that is accepted never declines in the middle: with no operation open each of its advance calls is accepted, and the
 -- bound on their number is never used up, so it reports done.
 use Prim.Native.Nat.{ℕ, zero, suc, _+_, _*_, _-_, _≤_, _<_}
-use mathlib.Core.Path.{_≡_, refl, ap, _∙_}
-use mathlib.Core.Bool.{Bool, true, false, not, _&&_, _||_}
+use mathlib.Core.Path.{_≡_, refl, _∙_}
+use mathlib.Core.Bool.{Bool, true, false, not, _&&_}
 use mathlib.Core.Logic.{inl, inr}
 use mathlib.Core.List.{List}
 use lib.ListN.{length, getD}
-use lib.Dec.{leb, ltb, eqb}
+use lib.Dec.{ltb, eqb}
 use borrow.Author.Tests.{le-leb, lt-ltb, eq-eqb, ne-eqb, eqb-true, ltb-false, not-false}
 use native.Mathlib.Omega.{arith}
 use Rattle.search.specs.Bools.{and-left, and-right, and-both}
-use Rattle.search.specs.Some.{some, some-none, none-some, at-every}
+use Rattle.search.specs.Some.{anyOf, some-none, none-some, at-every}
 use Rattle.reply.specs.declared.Check.{Check}
 use Rattle.reply.specs.declared.Check.the-variants.{Accepted, Refused}
 use Rattle.reply.specs.declared.Refusal.{Refusal}
-use Rattle.reply.specs.declared.Refusal.the-variants.{BadSizes, BadClock, StillOpen, LastEpoch, NoLine}
+use Rattle.reply.specs.declared.Refusal.the-variants.{BadSizes, BadClock, StillOpen, LastEpoch}
 use Rattle.reply.specs.Refusals.{refuse, not-refused, both-accepted}
 use Rattle.image.specs.declared.header.Header.{Header}
 use Rattle.image.specs.Layout.{mostNumber, slotsOf, widthOf, clockOf, shapeOk, clockOk}
@@ -33,11 +33,11 @@ use Rattle.epochs.specs.declared.Advance.the-variants.{WentOn, Ticked, D
 use Rattle.epochs.specs.declared.Sync.{Sync}
 use Rattle.epochs.specs.declared.Sync.the-variants as sync-reply
 use Rattle.epochs.specs.Advance.{Stepped, reclaimed, contentsFlushed, headerFlushed, ticking, step, underway, openBelow, advanceCheck, noted, advanceSized, advance}
-use Rattle.epochs.specs.Sync.{anyOpen, syncCheck, byReply, advances, mostLines, sync}
+use Rattle.epochs.specs.Sync.{anyOpen, syncCheck, byReply, syncFrom, mostLines, sync}
 use Rattle.epochs.specs.WriteBack.{writeBack}
 use Rattle.epochs.specs.Moved.{notedPlace}
 use Rattle.epochs.specs.Ways.{every-way, nextStep, advance-way, back-way}
-use Rattle.epochs.specs.Left.{step-goes, Moves, advance-moves, budget, budget-top, budget-low, budget-on, budget-tick}
+use Rattle.epochs.specs.Left.{step-goes, advance-moves, budget, budget-top, budget-low, budget-on, budget-tick}
 
 -- ---- what a line leaves of an image: its length and its sizes
 record Alike (l l′ : List ℕ) : Type 0 where
@@ -280,8 +280,8 @@ pub record Done (a : Outcome Sync) : Type 0 where
   pub lines : ℕ
   pub is : a .reply ≡ sync-reply.Done lines
 
-advances-done : (more ticks lines : ℕ) (st : Store) → Quiet ticks st → budget (tableOf st) ticks ≤ more → Done (advances more ticks lines st)
-unfolding advances
+advances-done : (more ticks lines : ℕ) (st : Store) → Quiet ticks st → budget (tableOf st) ticks ≤ more → Done (syncFrom more ticks lines st)
+unfolding syncFrom
 advances-done zero zero lines st q e = record { lines = lines; is = refl }
 advances-done (suc more) zero lines st q e = record { lines = lines; is = refl }
 advances-done zero (suc k) lines st q e = absurd (omega (arith, budget-low (tableOf st) k (quiet-place q)))
@@ -289,9 +289,9 @@ advances-done (suc more) (suc k) lines st q e =
     go (advance-quiet k st q) (advances-done more (suc k) (suc lines) (advance st .store)) (advances-done more k (suc lines) (advance st .store))
   where
     go : Onward k st
-        → (Quiet (suc k) (advance st .store) → budget (tableOf (advance st .store)) (suc k) ≤ more → Done (advances more (suc k) (suc lines) (advance st .store)))
-        → (Quiet k (advance st .store) → budget (tableOf (advance st .store)) k ≤ more → Done (advances more k (suc lines) (advance st .store)))
-        → Done (byReply (advance st .reply) (advances more (suc k) (suc lines)) (advances more k (suc lines)) (advance st .store))
+        → (Quiet (suc k) (advance st .store) → budget (tableOf (advance st .store)) (suc k) ≤ more → Done (syncFrom more (suc k) (suc lines) (advance st .store)))
+        → (Quiet k (advance st .store) → budget (tableOf (advance st .store)) k ≤ more → Done (syncFrom more k (suc lines) (advance st .store)))
+        → Done (byReply (advance st .reply) (syncFrom more (suc k) (suc lines)) (syncFrom more k (suc lines)) (advance st .store))
     go (went r x) a b = rw r (a x (omega (arith, budget-on (advance-moves st) k r)))
     go (ticked r x) a b = rw r (b x (omega (arith, budget-tick (advance-moves st) k r)))
 
@@ -302,7 +302,7 @@ check-quiet st a =
     let both = both-accepted (entryCheck st) _ a in
     let open-in : ℕ → Bool = λ u. not (eqb (openEpoch (st .transient) u) 0) in
     let high = ltb (mostNumber - 2) (clockOf (st .working)) in
-    let first = not-refused (some open-in (sizesOf (tableOf st) .t)) StillOpen (refuse high LastEpoch Accepted) (both .1) in
+    let first = not-refused (anyOf open-in (sizesOf (tableOf st) .t)) StillOpen (refuse high LastEpoch Accepted) (both .1) in
     let top = ltb-false (mostNumber - 2) (clockOf (st .working)) (not-refused high LastEpoch Accepted (first .1) .0) in
     record {
       entry = both .0;
@@ -320,7 +320,7 @@ pub sync-keeps : (st : Store) (r : Refusal) → sync st .reply ≡ sync-reply.De
 unfolding sync
 sync-keeps st r d = go (syncCheck st) refl
   where
-    go : (k : Check) → syncCheck st ≡ k → afterCheck k sync-reply.Declined st (advances (2 * mostLines (slotsOf (st .working))) 2 0 st) .store ≡ st
+    go : (k : Check) → syncCheck st ≡ k → afterCheck k sync-reply.Declined st (syncFrom (2 * mostLines (slotsOf (st .working))) 2 0 st) .store ≡ st
     go (Refused q) e = refl
     go Accepted e = let f = sync-done st e .is in let z : _≡_ {A = ℕ} 0 1 = cc in absurd (omega arith)
 

@@ -5,7 +5,7 @@ use mathlib.Core.Bool.{Bool, not}
 use mathlib.Core.List.{List}
 use lib.Dec.{eqb}
 use Rattle.search.specs.First.{sought-start, sought-next}
-use Rattle.search.specs.Some.{some, some-hit, some-end}
+use Rattle.search.specs.Some.{anyOf, some-hit, some-end}
 use Rattle.transient.specs.Layout.{openEpoch}
 use Rattle.transient.specs.Requires.{thread-of}
 use Rattle.epochs.specs.Advance.{openBelow}
@@ -26,11 +26,11 @@ module _ (tr : List ℕ) where
   unfolding isOpenBelow
   below-at c thread x p q = rw (p, q, x)
 
-  pub open-is : (t : ℕ) {r : Bool} → r ≡ some (isOpen tr) t → r ≡ anyOpen tr t
+  pub open-is : (t : ℕ) {r : Bool} → r ≡ anyOf (isOpen tr) t → r ≡ anyOpen tr t
   unfolding anyOpen isOpen
   open-is t e = e
 
-  pub below-is : (t c : ℕ) {r : Bool} → r ≡ some (isOpenBelow tr c) t → r ≡ openBelow tr t c
+  pub below-is : (t c : ℕ) {r : Bool} → r ≡ anyOf (isOpenBelow tr c) t → r ≡ openBelow tr t c
   unfolding openBelow isOpenBelow
   below-is t c e = e
 

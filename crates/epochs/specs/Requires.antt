@@ -1,5 +1,5 @@
 -- What functions inside require: a store at a step of an advance, from a slot on.
-use Prim.Native.Nat.{ℕ, _+_, _*_, _≤_, _<_}
+use Prim.Native.Nat.{ℕ, _+_, _≤_, _<_}
 use mathlib.Core.List.{List}
 use lib.ListN.{length}
 use mir.Val.{Fits}

@@ -4,7 +4,7 @@ use Prim.Native.Nat.{ℕ, zero, suc, _+_, _*_, _-_}
 use mathlib.Core.Bool.{Bool, not}
 use mathlib.Core.List.{List}
 use lib.Dec.{ltb, eqb}
-use Rattle.search.specs.Some.{some}
+use Rattle.search.specs.Some.{anyOf}
 use Rattle.reply.specs.declared.Check.{Check}
 use Rattle.reply.specs.declared.Check.the-variants.{Accepted}
 use Rattle.reply.specs.declared.Refusal.the-variants.{StillOpen, LastEpoch}
@@ -21,7 +21,7 @@ use Rattle.epochs.specs.Advance.{advance}
 
 -- 14: "sync: any operation open"; 15: "sync: clock above 3,999,999,998"
 unfoldable pub anyOpen : List ℕ → ℕ → Bool
-anyOpen tr t = some (λ thread. not (eqb (openEpoch tr thread) 0)) t
+anyOpen tr t = anyOf (λ thread. not (eqb (openEpoch tr thread) 0)) t
 
 unfoldable pub syncCheck : Store → Check
 syncCheck st =
@@ -35,18 +35,18 @@ byReply Ticked on tick st = tick st
 byReply (Declined r) on tick st = record { reply = sync-reply.Declined r; store = st }
 
 -- advance calls until so many more ticks have happened; `more` bounds the calls, and is never used up
-unfoldable pub advances : ℕ → ℕ → ℕ → Store → Outcome Sync
-advances more zero lines st = record { reply = sync-reply.Done lines; store = st }
-advances zero (suc ticks) lines st = record { reply = sync-reply.Declined LastEpoch; store = st }
-advances (suc more) (suc ticks) lines st =
-    byReply (advance st .reply) (advances more (suc ticks) (suc lines)) (advances more ticks (suc lines)) (advance st .store)
+unfoldable pub syncFrom : ℕ → ℕ → ℕ → Store → Outcome Sync
+syncFrom more zero lines st = record { reply = sync-reply.Done lines; store = st }
+syncFrom zero (suc ticks) lines st = record { reply = sync-reply.Declined LastEpoch; store = st }
+syncFrom (suc more) (suc ticks) lines st =
+    byReply (advance st .reply) (syncFrom more (suc ticks) (suc lines)) (syncFrom more ticks (suc lines)) (advance st .store)
 
 -- an advance stores at most one line for a slot it reclaims, two for one it writes back, and one for the clock
 abbrev pub mostLines : ℕ → ℕ
 mostLines n = 3 * n + 1
 
 unfoldable pub sync : Store → Outcome Sync
-sync st = afterCheck (syncCheck st) sync-reply.Declined st (advances (2 * mostLines (slotsOf (st .working))) 2 0 st)
+sync st = afterCheck (syncCheck st) sync-reply.Declined st (syncFrom (2 * mostLines (slotsOf (st .working))) 2 0 st)
 
 -- the reply as one number: the lines stored, or 2^32 plus the refusal
 abbrev pub syncNumber : Sync → ℕ

@@ -28,7 +28,7 @@ use Rattle.epochs.specs.declared.Advance.the-variants.{WentOn, Ticked, D
 use Rattle.epochs.specs.declared.Sync.{Sync}
 use Rattle.epochs.specs.declared.Sync.the-variants as sync-reply
 use Rattle.epochs.specs.Advance.{advance}
-use Rattle.epochs.specs.Sync.{anyOpen, syncCheck, advances, mostLines, sync}
+use Rattle.epochs.specs.Sync.{anyOpen, syncCheck, syncFrom, mostLines, sync}
 use Rattle.epochs.specs.Left.{Moves, advance-moves, budget, budget-top, budget-low, budget-on, budget-tick}
 
 -- ---- refusals 14 and 15
@@ -72,7 +72,7 @@ pub record Syncing (wk₀ l₀ tr₀ : List ℕ) (ticks lines : ℕ) (wk l tr : 
   pub place : placeSlot tr < slotsOf wk
   pub enough : budget (table wk tr) ticks ≤ more
   pub few : lines + more ≤ 2 * mostLines mostSlots
-  pub same : advances (2 * mostLines (slotsOf wk₀)) 2 0 (store wk₀ l₀ tr₀) ≡ advances more ticks lines (store wk l tr)
+  pub same : syncFrom (2 * mostLines (slotsOf wk₀)) 2 0 (store wk₀ l₀ tr₀) ≡ syncFrom more ticks lines (store wk l tr)
 
 pub sync-start : {wk l tr : List ℕ} → EnteredWith wk l tr (sizesOf (table wk tr)) → Syncing wk l tr 2 0 wk l tr
 unfolding sizesOf
@@ -99,26 +99,26 @@ module _ {wk₀ l₀ tr₀ : List ℕ} {ticks lines : ℕ} {wk l tr : List ℕ} 
   pub sync-fits : Fits w64 (lines + 1)
   sync-fits = omega (arith, y .few)
 
-  pub sync-done : ticks ≤ 0 → outcome (sync-reply.Done lines) wk l tr ≡ advances (2 * mostLines (slotsOf wk₀)) 2 0 (store wk₀ l₀ tr₀)
-  unfolding advances
+  pub sync-done : ticks ≤ 0 → outcome (sync-reply.Done lines) wk l tr ≡ syncFrom (2 * mostLines (slotsOf wk₀)) 2 0 (store wk₀ l₀ tr₀)
+  unfolding syncFrom
   sync-done h = let e : ticks ≡ 0 = omega arith in sym (rw e at (y .same) ∙ none-left (y .more))
     where
-      none-left : (more : ℕ) → advances more 0 lines (store wk l tr) ≡ outcome (sync-reply.Done lines) wk l tr
+      none-left : (more : ℕ) → syncFrom more 0 lines (store wk l tr) ≡ outcome (sync-reply.Done lines) wk l tr
       none-left zero = refl
       none-left (suc more) = refl
 
 -- one call more, by its reply
 module _ (more ticks lines : ℕ) (st st′ : Store) where
-  next-on : record { reply = WentOn; store = st′ } ≡ advance st → advances (suc more) (suc ticks) lines st ≡ advances more (suc ticks) (lines + 1) st′
-  unfolding advances
+  next-on : record { reply = WentOn; store = st′ } ≡ advance st → syncFrom (suc more) (suc ticks) lines st ≡ syncFrom more (suc ticks) (lines + 1) st′
+  unfolding syncFrom
   next-on e = rw (← e, add-one lines)
 
-  next-tick : record { reply = Ticked; store = st′ } ≡ advance st → advances (suc more) (suc ticks) lines st ≡ advances more ticks (lines + 1) st′
-  unfolding advances
+  next-tick : record { reply = Ticked; store = st′ } ≡ advance st → syncFrom (suc more) (suc ticks) lines st ≡ syncFrom more ticks (lines + 1) st′
+  unfolding syncFrom
   next-tick e = rw (← e, add-one lines)
 
-  next-declined : (r : Refusal) → record { reply = Declined r; store = st′ } ≡ advance st → advances (suc more) (suc ticks) lines st ≡ record { reply = sync-reply.Declined r; store = st′ }
-  unfolding advances
+  next-declined : (r : Refusal) → record { reply = Declined r; store = st′ } ≡ advance st → syncFrom (suc more) (suc ticks) lines st ≡ record { reply = sync-reply.Declined r; store = st′ }
+  unfolding syncFrom
   next-declined r e = rw (← e)
 
 module _ {wk₀ l₀ tr₀ : List ℕ} {ticks lines : ℕ} {wk l tr wk′ l′ tr′ : List ℕ} {r : Advance}
@@ -133,7 +133,7 @@ module _ {wk₀ l₀ tr₀ : List ℕ} {ticks lines : ℕ} {wk l tr wk′ l′ t
   again : suc (y .more - 1) ≡ y .more
   again = omega (arith, y .enough, rw some at (budget-low (table wk tr) (ticks - 1) (y .place)))
 
-  so-far : advances (2 * mostLines (slotsOf wk₀)) 2 0 (store wk₀ l₀ tr₀) ≡ advances (suc (y .more - 1)) ticks lines (store wk l tr)
+  so-far : syncFrom (2 * mostLines (slotsOf wk₀)) 2 0 (store wk₀ l₀ tr₀) ≡ syncFrom (suc (y .more - 1)) ticks lines (store wk l tr)
   so-far = rw again (y .same)
 
   lengths : Longs wk l tr wk′ l′ tr′ → Longs wk₀ l₀ tr₀ wk′ l′ tr′
@@ -141,7 +141,7 @@ module _ {wk₀ l₀ tr₀ : List ℕ} {ticks lines : ℕ} {wk l tr wk′ l′ t
 
   -- where the budget is lower and the rest is the same, the loop goes on
   next : {ticks′ : ℕ} → Longs wk l tr wk′ l′ tr′ → budget (table wk′ tr′) ticks′ < budget (table wk tr) ticks
-      → advances (suc (y .more - 1)) ticks lines (store wk l tr) ≡ advances (y .more - 1) ticks′ (lines + 1) (store wk′ l′ tr′) → Syncing wk₀ l₀ tr₀ ticks′ (lines + 1) wk′ l′ tr′
+      → syncFrom (suc (y .more - 1)) ticks lines (store wk l tr) ≡ syncFrom (y .more - 1) ticks′ (lines + 1) (store wk′ l′ tr′) → Syncing wk₀ l₀ tr₀ ticks′ (lines + 1) wk′ l′ tr′
   next x less same =
       record {
         more = y .more - 1;
@@ -164,7 +164,7 @@ module _ {wk₀ l₀ tr₀ : List ℕ} {ticks lines : ℕ} {wk l tr wk′ l′ t
   pub sync-tick : {ticks′ : ℕ} → Longs wk l tr wk′ l′ tr′ → r ≡ Ticked → ticks′ ≡ ticks - 1 → Syncing wk₀ l₀ tr₀ ticks′ (lines + 1) wk′ l′ tr′
   sync-tick x q i = next x (lowers-tick q i) (rw i (rw some at (next-tick (y .more - 1) (ticks - 1) lines (store wk l tr) (store wk′ l′ tr′) (rw q at e))))
 
-  pub sync-declined : {d : Refusal} → r ≡ Declined d → outcome (sync-reply.Declined d) wk′ l′ tr′ ≡ advances (2 * mostLines (slotsOf wk₀)) 2 0 (store wk₀ l₀ tr₀)
+  pub sync-declined : {d : Refusal} → r ≡ Declined d → outcome (sync-reply.Declined d) wk′ l′ tr′ ≡ syncFrom (2 * mostLines (slotsOf wk₀)) 2 0 (store wk₀ l₀ tr₀)
   sync-declined {d} q = sym (so-far ∙ rw some at (next-declined (y .more - 1) (ticks - 1) lines (store wk l tr) (store wk′ l′ tr′) d (rw q at e)))
 
 -- ---- the call
@@ -174,7 +174,7 @@ module _ (wk l tr : List ℕ) {k : Check} (ce : k ≡ syncCheck (store wk l tr))
   sync-refused a = rw (← ce, a)
 
   module _ (a : k ≡ Accepted) where
-    pub sync-goes : {x : Outcome Sync} → x ≡ advances (2 * mostLines (slotsOf wk)) 2 0 (store wk l tr) → x ≡ sync (store wk l tr)
+    pub sync-goes : {x : Outcome Sync} → x ≡ syncFrom (2 * mostLines (slotsOf wk)) 2 0 (store wk l tr) → x ≡ sync (store wk l tr)
     unfolding sync
     sync-goes e = rw (← ce, a) e
 

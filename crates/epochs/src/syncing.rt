@@ -9,7 +9,7 @@ ghost use Prim.Native.Nat.{_*_};
 ghost use Rattle.image.specs.Layout.{slotsOf};
 ghost use Rattle.transient.specs.Store.{store, table, sizesOf, outcome};
 ghost use Rattle.transient.specs.Requires.{Entered, EnteredWith};
-ghost use Rattle.epochs.specs.Sync.{syncCheck, advances, mostLines, sync};
+ghost use Rattle.epochs.specs.Sync.{syncCheck, syncFrom, mostLines, sync};
 ghost use Rattle.epochs.specs.SyncExits.{readyCheck};
 
 // Refusals 14 and 15.
@@ -40,7 +40,7 @@ fn check(working: &[u32], persistent: &[u32], transient: &[u32]) -> Check
 
 fn sync_lines(working: &mut [u32], persistent: &mut [u32], transient: &mut [u32]) -> Sync
     requires { ⌜ EnteredWith (now working) (now persistent) (now transient) (sizesOf (table (now working) (now transient))) ⌝ }
-    ensures { λ r. ⌜ outcome r (now (working .exit)) (now (persistent .exit)) (now (transient .exit)) ≡ advances (2 * mostLines (slotsOf (now (working .entry)))) 2 0 (store (now (working .entry)) (now (persistent .entry)) (now (transient .entry))) ⌝ }
+    ensures { λ r. ⌜ outcome r (now (working .exit)) (now (persistent .exit)) (now (transient .exit)) ≡ syncFrom (2 * mostLines (slotsOf (now (working .entry)))) 2 0 (store (now (working .entry)) (now (persistent .entry)) (now (transient .entry))) ⌝ }
 {
     let mut ticks: usize = 2;
     let mut lines = 0;

@@ -7,7 +7,7 @@ use borrow.Author.Tests.{eqb-false, eq-eqb, ne-eqb}
 use native.Mathlib.Omega.{arith}
 use native.Mathlib.Decide.{ℕ-discrete}
 use Rattle.search.specs.Bools.{never, not-is-true, and-both}
-use Rattle.search.specs.Some.{some, some-at}
+use Rattle.search.specs.Some.{anyOf, some-at}
 use Rattle.reply.specs.declared.Check.{Check}
 use Rattle.reply.specs.declared.Check.the-variants.{Accepted, Refused}
 use Rattle.reply.specs.declared.Refusal.the-variants.{StillOpen, LastEpoch}
@@ -70,7 +70,7 @@ module _ {sz : Sizes} {start : Jobs} {st : Store} {p : Plain} (g : Good sz start
   ready e =
       let below : ℕ → Bool = λ u. eqb (openEpoch (st .transient) u + 1) (p .clock) in
       let last = eqb (p .clock) mostNumber in
-      let a = not-refused (not (underway (st .transient)) && some below (sz .t)) StillOpen (refuse last LastEpoch Accepted) e in
+      let a = not-refused (not (underway (st .transient)) && anyOf below (sz .t)) StillOpen (refuse last LastEpoch Accepted) e in
       let top = eqb-false (p .clock) mostNumber (not-refused last LastEpoch Accepted (a .1) .0) in
       record {
         good = g;

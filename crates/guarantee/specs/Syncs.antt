@@ -13,7 +13,7 @@ use Rattle.epochs.specs.declared.Advance.the-variants.{WentOn, Ticked, Declined
 use Rattle.epochs.specs.declared.Sync.{Sync}
 use Rattle.epochs.specs.declared.Sync.the-variants as reply
 use Rattle.epochs.specs.Advance.{advance}
-use Rattle.epochs.specs.Sync.{syncCheck, byReply, advances, mostLines, sync}
+use Rattle.epochs.specs.Sync.{syncCheck, byReply, syncFrom, mostLines, sync}
 use Rattle.guarantee.specs.Trace.{Moment, moment, Trace, one, followed, afterAdvance, afterLines, toldAdvance, goingOn, syncing, synced, syncs, through}
 
 -- the trace tr is that of a sync with the answer a
@@ -25,17 +25,17 @@ pub record Same (a : Outcome Sync) (tr : Trace) : Type 0 where
 not-done : {A : Type 0} {r : _} {k : ℕ} → reply.Declined r ≡ reply.Done k → A
 not-done e = let z : _≡_ {A = ℕ} 0 1 = cc in absurd (omega arith)
 
-same-syncing : (more ticks k lines : ℕ) (m : Moment) → Same (advances more ticks lines (m .store)) (syncing more ticks k (λ _. []) m)
-unfolding advances syncing afterLines afterAdvance
+same-syncing : (more ticks k lines : ℕ) (m : Moment) → Same (syncFrom more ticks lines (m .store)) (syncing more ticks k (λ _. []) m)
+unfolding syncFrom syncing afterLines afterAdvance
 same-syncing more zero k lines m = record { store = refl; done = λ k e. refl }
 same-syncing zero (suc ticks) k lines m = record { store = refl; done = λ k e. not-done e }
 same-syncing (suc more) (suc ticks) k lines m =
     go (advance (m .store) .reply) (same-syncing more (suc ticks) (suc k) (suc lines)) (same-syncing more ticks (suc k) (suc lines))
   where
     go : (r : Advance)
-        → ((x : Moment) → Same (advances more (suc ticks) (suc lines) (x .store)) (syncing more (suc ticks) (suc k) (λ _. []) x))
-        → ((x : Moment) → Same (advances more ticks (suc lines) (x .store)) (syncing more ticks (suc k) (λ _. []) x))
-        → Same (byReply r (advances more (suc ticks) (suc lines)) (advances more ticks (suc lines)) (advance (m .store) .store))
+        → ((x : Moment) → Same (syncFrom more (suc ticks) (suc lines) (x .store)) (syncing more (suc ticks) (suc k) (λ _. []) x))
+        → ((x : Moment) → Same (syncFrom more ticks (suc lines) (x .store)) (syncing more ticks (suc k) (λ _. []) x))
+        → Same (byReply r (syncFrom more (suc ticks) (suc lines)) (syncFrom more ticks (suc lines)) (advance (m .store) .store))
         (followed (one (moment (advance (m .store) .store) (toldAdvance r (m .plain)))) (goingOn r (syncing more (suc ticks) (suc k) (λ _. [])) (syncing more ticks (suc k) (λ _. []))))
     go WentOn a b = let x = a (moment (advance (m .store) .store) (m .plain)) in record { store = x .store; done = x .done }
     go Ticked a b = let x = b (moment (advance (m .store) .store) (toldAdvance Ticked (m .plain))) in record { store = x .store; done = x .done }
@@ -45,6 +45,6 @@ pub sync-is : (m : Moment) → Same (sync (m .store)) (through (syncs (λ _. [])
 unfolding sync through
 sync-is m = go (syncCheck (m .store))
   where
-    go : (k : Check) → Same (afterCheck k reply.Declined (m .store) (advances (2 * mostLines (slotsOf (m .store .working))) 2 0 (m .store))) (synced k (λ _. []) m)
+    go : (k : Check) → Same (afterCheck k reply.Declined (m .store) (syncFrom (2 * mostLines (slotsOf (m .store .working))) 2 0 (m .store))) (synced k (λ _. []) m)
     go (Refused r) = record { store = refl; done = λ k e. not-done e }
     go Accepted = let x = same-syncing (2 * mostLines (slotsOf (m .store .working))) 2 0 0 m in record { store = x .store; done = x .done }

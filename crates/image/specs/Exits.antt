@@ -11,10 +11,10 @@ use mir.Val.{Fits}
 use mir.Syntax.{w64}
 use Rattle.search.specs.Bools.{cases, tests}
 use Rattle.image.specs.declared.header.Header.{Header}
-use Rattle.image.specs.Layout.{headerAt, contentsAt, imageWords, headerOf, kindAt, epochAt, uidAt, header, contents, keyAt, slotsOf, widthOf, sizesOk, shapeOk}
+use Rattle.image.specs.Layout.{headerAt, contentsAt, imageWords, headerOf, header, contents, keyAt, slotsOf, widthOf, sizesOk, shapeOk}
 use Rattle.image.specs.Line.{headerLine, contentsLine, clockLine, stored, storeLine}
 use Rattle.image.specs.Name.{jobName, nameAt, sameName}
-use Rattle.image.specs.Requires.{InRange, Slot, SlotOf, Slots, SlotLine, slot, header-fits, slot-of}
+use Rattle.image.specs.Requires.{kindAt, epochAt, uidAt, InRange, Slot, SlotOf, Slots, SlotLine, slot, header-fits, slot-of}
 use Rattle.image.specs.Bytes.{wordsOf, Byte, InWords, Decodes, words-at}
 use Rattle.image.specs.Laws.{area-top, sizes-true, shaped, length-contents}
 use Rattle.image.specs.Storing.{storings}

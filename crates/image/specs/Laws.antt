@@ -13,10 +13,10 @@ use native.Mathlib.Nat.{mul-le-mul, eq-or-lt-of-le}
 use native.Mathlib.Decide.{decLt}
 use Rattle.search.specs.Bools.{and-left, and-right}
 use Rattle.image.specs.declared.header.Header.{Header}
-use Rattle.image.specs.Layout.{mostSlots, headerWords, headerAt, contentsAt, imageWords, kindAt, epochAt, uidAt, header, contents, keyAt, valueAt, slotsOf, widthOf, clockOf, sizesOk, shapeOk}
+use Rattle.image.specs.Layout.{mostSlots, headerWords, headerAt, contentsAt, imageWords, header, contents, keyAt, valueAt, slotsOf, widthOf, clockOf, sizesOk, shapeOk}
 use Rattle.image.specs.Line.{Line, headerLine, contentsLine, clockLine, stored, storeLine}
 use Rattle.image.specs.Name.{nameOf, nameAt}
-use Rattle.image.specs.Requires.{InRange, Sized, Slot, HeaderFits, room-of}
+use Rattle.image.specs.Requires.{kindAt, epochAt, uidAt, InRange, Sized, Slot, HeaderFits, room-of}
 
 -- ---- an image of the right shape has its sizes
 pub area-top : {n w : ℕ} → InRange n w → w * n ≤ 9 * mostSlots

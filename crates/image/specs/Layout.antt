@@ -56,17 +56,8 @@ payloadKind k = leb 1 k && leb k 2
 
 -- ---- readers
 
-abbrev pub kindAt : List ℕ → ℕ → ℕ
-kindAt l s = getD l (headerAt s) 0
-
-abbrev pub epochAt : List ℕ → ℕ → ℕ
-epochAt l s = getD l (headerAt s + 1) 0
-
-abbrev pub uidAt : List ℕ → ℕ → ℕ
-uidAt l s = getD l (headerAt s + 2) 0
-
 unfoldable pub header : List ℕ → ℕ → Header
-header l s = headerOf (kindAt l s) (epochAt l s) (uidAt l s)
+header l s = headerOf (getD l (headerAt s) 0) (getD l (headerAt s + 1) 0) (getD l (headerAt s + 2) 0)
 
 unfoldable pub contents : List ℕ → ℕ → ℕ → ℕ → List ℕ
 contents l n w s = take w (drop (contentsAt n w s) l)

@@ -2,10 +2,10 @@
 use Prim.Native.Nat.{ℕ, _+_, _*_, _≤_, _<_}
 use mathlib.Core.Path.{_≡_, _∙_}
 use mathlib.Core.List.{List}
-use lib.ListN.{length}
+use lib.ListN.{length, getD}
 use native.Mathlib.Omega.{arith}
 use native.Mathlib.Nat.{mul-suc, mul-le-mul-left}
-use Rattle.image.specs.Layout.{mostSlots, headerWords, imageWords}
+use Rattle.image.specs.Layout.{mostSlots, headerWords, headerAt, imageWords}
 
 pub record InRange (n w : ℕ) : Type 0 where
   pub slots-lo : 2 ≤ n
@@ -44,6 +44,16 @@ pub record HeaderFits (l : List ℕ) (n s : ℕ) : Type 0 where
   pub within : s < n
   pub slots-hi : n ≤ mostSlots
   pub long : 3 + headerWords * n ≤ length l
+
+-- ---- the words of a header, one by one
+abbrev pub kindAt : List ℕ → ℕ → ℕ
+kindAt l s = getD l (headerAt s) 0
+
+abbrev pub epochAt : List ℕ → ℕ → ℕ
+epochAt l s = getD l (headerAt s + 1) 0
+
+abbrev pub uidAt : List ℕ → ℕ → ℕ
+uidAt l s = getD l (headerAt s + 2) 0
 
 -- ---- how they are made
 -- slot s's words end within n slots' words

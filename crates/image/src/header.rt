@@ -1,8 +1,8 @@
 // A header (01: a mark): its kinds, its constructors, its readers and its writer.
 ghost use mathlib.Core.Path.{_≡_};
-ghost use Rattle.image.specs.Layout.{kindAt, header, freeHeader, freshHeader, updatedHeader, antiHeader, filledKind, payloadKind};
+ghost use Rattle.image.specs.Layout.{header, freeHeader, freshHeader, updatedHeader, antiHeader, filledKind, payloadKind};
 ghost use Rattle.image.specs.Line.{headerLine, storeLine};
-ghost use Rattle.image.specs.Requires.{HeaderFits};
+ghost use Rattle.image.specs.Requires.{HeaderFits, kindAt};
 
 pub struct Header {
     pub kind: u32,

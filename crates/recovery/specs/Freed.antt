@@ -8,7 +8,7 @@ use borrow.Author.Tests.{leb-true, ltb-true, eqb-true, eqb-false, le-leb, lt-ltb
 use native.Mathlib.Omega.{arith}
 use native.Mathlib.Decide.{ℕ-discrete}
 use Rattle.search.specs.Bools.{never, refuted, same-test, and-left, and-right, and-both, not-is-true}
-use Rattle.search.specs.Some.{some, some-at, some-one, some-none, none-some}
+use Rattle.search.specs.Some.{anyOf, some-at, some-one, some-none, none-some}
 use Rattle.image.specs.declared.header.Header.{Header}
 use Rattle.image.specs.Layout.{filledKind, payloadKind, freeHeader}
 use Rattle.survival.specs.Survivors.{kept, beats, beaten, wins, survives, keptAnti}
@@ -169,7 +169,7 @@ module _ (c : ℕ) {hs hs′ : ℕ → Header} {s₀ : ℕ} (f : Freed hs hs′ 
   freed-versions s u =
       refuted (versionBelow c hs′ s)
       (λ y.
-      let z : kept c (hs s) && some (λ t. sameVersion c (hs s) (hs′ t)) s ≡ true = rw (kept-unmoved s (and-left (kept c (hs′ s)) _ y)) at y in
+      let z : kept c (hs s) && anyOf (λ t. sameVersion c (hs s) (hs′ t)) s ≡ true = rw (kept-unmoved s (and-left (kept c (hs′ s)) _ y)) at y in
       let o = some-one (λ t. sameVersion c (hs s) (hs′ t)) s (and-right (kept c (hs s)) _ z) in
       let was = kept-unmoved (o .at) (version-kept c (hs s) (hs′ (o .at)) (o .passes)) in
       let twice = some-at (λ t. sameVersion c (hs s) (hs t)) s (o .at) (o .below) (rw was at (o .passes)) in
@@ -181,7 +181,7 @@ unfolding survives wins beaten keptAnti
 stale-covered c hs n s₀ dies plain s l p b =
     let e = beats-says c (hs s) (hs s₀) b in
     let payload = filled-payload (hs s₀ .kind) (kept-filled c (hs s₀) (e .is-kept)) (eqb-false (hs s₀ .kind) 3 (rw (e .is-kept) at plain)) in
-    let lost : some (λ t. beats c (hs s₀) (hs t)) n ≡ true = not-false _ (rw (payload, e .is-kept) at dies) in
+    let lost : anyOf (λ t. beats c (hs s₀) (hs t)) n ≡ true = not-false _ (rw (payload, e .is-kept) at dies) in
     let o = some-one (λ t. beats c (hs s₀) (hs t)) n lost in
     let g = beats-says c (hs s₀) (hs (o .at)) (o .passes) in
     record {

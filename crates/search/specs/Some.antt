@@ -9,15 +9,15 @@ use native.Mathlib.Omega.{arith}
 use Rattle.search.specs.Bools.{cases, never, not-is-true, not-is-false}
 use Rattle.search.specs.First.{first, first-at, first-before, first-top, first-same, Sought, sought-start, sought-next, sought-hit, sought-end}
 
-unfoldable pub some : (ℕ → Bool) → ℕ → Bool
-some p n = ltb (first p 0 n) n
+unfoldable pub anyOf : (ℕ → Bool) → ℕ → Bool
+anyOf p n = ltb (first p 0 n) n
 
 unfoldable pub every : (ℕ → Bool) → ℕ → Bool
-every p n = not (some (λ s. not (p s)) n)
+every p n = not (anyOf (λ s. not (p s)) n)
 
 -- ---- some
-pub some-at : (p : ℕ → Bool) (n s : ℕ) → s < n → p s ≡ true → some p n ≡ true
-unfolding some
+pub some-at : (p : ℕ → Bool) (n s : ℕ) → s < n → p s ≡ true → anyOf p n ≡ true
+unfolding anyOf
 some-at p n s h t =
     ⊎-elim
     (λ (y : ltb (first p 0 n) n ≡ true). y)
@@ -31,34 +31,34 @@ pub record Some (p : ℕ → Bool) (n : ℕ) : Type 0 where
   pub below : at < n
   pub passes : p at ≡ true
 
-pub some-one : (p : ℕ → Bool) (n : ℕ) → some p n ≡ true → Some p n
-unfolding some
+pub some-one : (p : ℕ → Bool) (n : ℕ) → anyOf p n ≡ true → Some p n
+unfolding anyOf
 some-one p n t =
     let h : first p 0 n < n = ltb-true _ _ t in
     record { at = first p 0 n; below = h; passes = first-at p n 0 (omega arith) }
 
-pub some-none : (p : ℕ → Bool) (n : ℕ) → some p n ≡ false → (s : ℕ) → s < n → p s ≡ false
+pub some-none : (p : ℕ → Bool) (n : ℕ) → anyOf p n ≡ false → (s : ℕ) → s < n → p s ≡ false
 some-none p n f s h =
-    ⊎-elim (λ (t : p s ≡ true). never (some p n) (some-at p n s h t) f) (λ (e : p s ≡ false). e) (cases (p s))
+    ⊎-elim (λ (t : p s ≡ true). never (anyOf p n) (some-at p n s h t) f) (λ (e : p s ≡ false). e) (cases (p s))
 
-pub none-some : (p : ℕ → Bool) (n : ℕ) → ((s : ℕ) → s < n → p s ≡ false) → some p n ≡ false
+pub none-some : (p : ℕ → Bool) (n : ℕ) → ((s : ℕ) → s < n → p s ≡ false) → anyOf p n ≡ false
 none-some p n h =
     ⊎-elim
-    (λ (t : some p n ≡ true). let a = some-one p n t in never (p (a .at)) (a .passes) (h (a .at) (a .below)))
-    (λ (f : some p n ≡ false). f)
-    (cases (some p n))
+    (λ (t : anyOf p n ≡ true). let a = some-one p n t in never (p (a .at)) (a .passes) (h (a .at) (a .below)))
+    (λ (f : anyOf p n ≡ false). f)
+    (cases (anyOf p n))
 
-pub some-same : (p q : ℕ → Bool) (n : ℕ) → ((s : ℕ) → s < n → p s ≡ q s) → some p n ≡ some q n
-unfolding some
+pub some-same : (p q : ℕ → Bool) (n : ℕ) → ((s : ℕ) → s < n → p s ≡ q s) → anyOf p n ≡ anyOf q n
+unfolding anyOf
 some-same p q n h = rw (first-same p q n 0 (λ j l u. h j (omega arith)))
 
 -- a loop's two answers
-pub some-hit : {p : ℕ → Bool} {n i : ℕ} {r : Bool} → Sought p n i → i < n → r ≡ p i → r ≡ true → true ≡ some p n
-unfolding some
+pub some-hit : {p : ℕ → Bool} {n i : ℕ} {r : Bool} → Sought p n i → i < n → r ≡ p i → r ≡ true → true ≡ anyOf p n
+unfolding anyOf
 some-hit {p} {n} {i} s h e f = rw (sought-hit s h e f, lt-ltb i n h)
 
-pub some-end : {p : ℕ → Bool} {n i : ℕ} → Sought p n i → n ≤ i → false ≡ some p n
-unfolding some
+pub some-end : {p : ℕ → Bool} {n i : ℕ} → Sought p n i → n ≤ i → false ≡ anyOf p n
+unfolding anyOf
 some-end {p} {n} {i} s h = rw (sought-end s h, le-ltb n n (omega arith))
 
 -- ---- every

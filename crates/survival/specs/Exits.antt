@@ -7,7 +7,7 @@ use lib.ListN.{getD}
 use lib.Dec.{leb, ltb, eqb}
 use borrow.Author.Tests.{eq-eqb, ne-eqb, eqb-true}
 use Rattle.search.specs.Bools.{tests, and-left, and-right}
-use Rattle.search.specs.Some.{some}
+use Rattle.search.specs.Some.{anyOf}
 use Rattle.search.specs.Count.{count, Counted, counted-start, counted-hit, counted-miss, counted-end}
 use Rattle.image.specs.declared.header.Header.{Header}
 use Rattle.image.specs.Layout.{filledKind, payloadKind, header, clockOf}
@@ -112,7 +112,7 @@ pub beats-in : (c : ℕ) (h : Header) (l : List ℕ) (t : ℕ) {r : Bool} → r 
 unfolding beatsIn
 beats-in c h l t e = e
 
-pub beaten-in : (c : ℕ) (h : Header) (l : List ℕ) (n : ℕ) {r : Bool} → r ≡ some (beatsIn c h l) n → r ≡ beaten c (header l) n h
+pub beaten-in : (c : ℕ) (h : Header) (l : List ℕ) (n : ℕ) {r : Bool} → r ≡ anyOf (beatsIn c h l) n → r ≡ beaten c (header l) n h
 unfolding beatsIn beaten
 beaten-in c h l n e = e
 

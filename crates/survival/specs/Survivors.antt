@@ -3,7 +3,7 @@ use Prim.Native.Nat.{ℕ, _+_}
 use mathlib.Core.Bool.{Bool, not, _&&_}
 use mathlib.Core.List.{List}
 use lib.Dec.{leb, ltb, eqb}
-use Rattle.search.specs.Some.{some}
+use Rattle.search.specs.Some.{anyOf}
 use Rattle.search.specs.Count.{count}
 use Rattle.image.specs.declared.header.Header.{Header}
 use Rattle.image.specs.Layout.{filledKind, payloadKind, header, clockOf}
@@ -17,7 +17,7 @@ unfoldable pub beats : ℕ → Header → Header → Bool
 beats c h g = kept c g && (eqb (g .uid) (h .uid) && ltb (h .epoch) (g .epoch))
 
 unfoldable pub beaten : ℕ → (ℕ → Header) → ℕ → Header → Bool
-beaten c hs n h = some (λ t. beats c h (hs t)) n
+beaten c hs n h = anyOf (λ t. beats c h (hs t)) n
 
 -- "Of kept slots with one uid the largest label wins;"
 unfoldable pub wins : ℕ → (ℕ → Header) → ℕ → ℕ → Bool

@@ -13,7 +13,7 @@ use mir.Val.{Fits}
 use mir.Syntax.{w64}
 use Rattle.search.specs.Bools.{cases}
 use Rattle.search.specs.First.{first, firstOf, loops as firsts}
-use Rattle.search.specs.Some.{some, some-at, none-some}
+use Rattle.search.specs.Some.{anyOf, some-at, none-some}
 use Rattle.search.specs.Count.{count}
 use Rattle.search.specs.Ring.{firstRound, ring-ahead, ring-round, round-found, round-one, round-another, round-alone, rounds}
 use Rattle.search.specs.declared.Found.{Found}
@@ -109,7 +109,7 @@ ascending-start p q n =
     record { low = omega arith; none = λ k h. absurd (omega arith); so-far = rw (le-ltb n n (omega arith), e) }
 
 module _ {p q : ℕ → Bool} {n s live : ℕ} {a : Bool} (y : Ascending p q n s live) (h : s < n) (na : a ≡ p s) where
-  ascending-newer : a ≡ true → some p n ≡ true
+  ascending-newer : a ≡ true → anyOf p n ≡ true
   ascending-newer t = some-at p n s h (sym na ∙ t)
 
   module _ (live′ : ℕ) (m : live′ ≡ sooner (q s) n s live) where

@@ -4,7 +4,7 @@ use mathlib.Core.Bool.{Bool, not, cond, _&&_}
 use mathlib.Core.List.{List}
 use lib.Dec.{leb, ltb, eqb}
 use Rattle.search.specs.First.{firstOf}
-use Rattle.search.specs.Some.{some}
+use Rattle.search.specs.Some.{anyOf}
 use Rattle.search.specs.Count.{count}
 use Rattle.search.specs.Ring.{firstRound}
 use Rattle.search.specs.declared.Found.{Found}
@@ -22,7 +22,7 @@ unfoldable pub newerAt : Sizes → List ℕ → Name → ℕ → ℕ → Bool
 newerAt z wk name e s = filledKind (header wk s .kind) && (sameName (nameAt wk (z .n) (z .w) s) name && ltb e (header wk s .epoch))
 
 unfoldable pub newer : Sizes → List ℕ → Name → ℕ → Bool
-newer z wk name e = some (newerAt z wk name e) (z .n)
+newer z wk name e = anyOf (newerAt z wk name e) (z .n)
 
 -- "A payload is live when its kind is 1 or 2 and it is not retired."
 unfoldable pub liveAt : Sizes → Table → Name → ℕ → Bool
