@@ -10,7 +10,7 @@ use Rattle.search.specs.declared.Found.the-variants.{At, Nothing}
 use Rattle.reply.specs.declared.Check.{Check}
 use Rattle.reply.specs.declared.Check.the-variants.{Accepted}
 use Rattle.reply.specs.declared.Refusal.the-variants.{StillOpen, LastEpoch}
-use Rattle.reply.specs.Refusals.{refuse, andThen, declinedNumber}
+use Rattle.reply.specs.Refusals.{refuse, declinedNumber}
 use Rattle.image.specs.Layout.{mostNumber, payloadKind, header, clockOf, freeHeader}
 use Rattle.image.specs.Line.{headerLine, clockLine, heldHeader, heldContents, storeLine}
 use Rattle.transient.specs.declared.sizes.Sizes.{Sizes}

@@ -4,9 +4,8 @@
 use Prim.Native.Nat.{ℕ, zero, suc, _+_, _*_, _-_, _≤_, _<_}
 use mathlib.Core.Path.{_≡_, refl, _∙_}
 use mathlib.Core.Bool.{Bool, true, false, not, _&&_}
-use mathlib.Core.Logic.{inl, inr}
 use mathlib.Core.List.{List}
-use lib.ListN.{length, getD}
+use lib.ListN.{length}
 use lib.Dec.{ltb, eqb}
 use borrow.Author.Tests.{le-leb, lt-ltb, eq-eqb, ne-eqb, eqb-true, ltb-false, not-false}
 use native.Mathlib.Omega.{arith}
@@ -22,7 +21,7 @@ use Rattle.image.specs.Layout.{mostNumber, slotsOf, widthOf, clockOf, shapeOk, 
 use Rattle.image.specs.Line.{headerLine, contentsLine, clockLine, storeLine}
 use Rattle.image.specs.Laws.{length-store, front-past-header, front-past-contents, word-past-clock, clock-same}
 use Rattle.transient.specs.declared.sizes.Sizes.{Sizes}
-use Rattle.transient.specs.Layout.{slotsAt, lastAt, nextUidAt, openAt, headWords, notedSlots, lastTaken, nextUidOf, placeSlot, openEpoch, threadsOk, setPlace}
+use Rattle.transient.specs.Layout.{notedSlots, lastTaken, nextUidOf, placeSlot, openEpoch, threadsOk}
 use Rattle.transient.specs.Laws.{FrontKept, front-same, retired-front, emptied-front, place-long, place-noted, place-last, place-uid, place-opens, slot-set}
 use Rattle.transient.specs.Store.{Store, store, tableOf, sizesOf, Outcome, afterCheck}
 use Rattle.transient.specs.Entry.{imagesFit, notesFit, sizesFit, openOk, opensOk, clocksFit, entryCheck}

@@ -8,7 +8,8 @@ use borrow.Author.Tests.{lt-ltb, le-ltb, eq-eqb, ne-eqb}
 use Rattle.search.specs.declared.Found.{Found}
 use Rattle.search.specs.declared.Found.the-variants.{At, Nothing}
 use Rattle.image.specs.declared.header.Header.{Header}
-use Rattle.image.specs.Layout.{mostSlots, payloadKind, kindAt, header, freeHeader}
+use Rattle.image.specs.Layout.{mostSlots, payloadKind, header, freeHeader}
+use Rattle.image.specs.Requires.{kindAt}
 use Rattle.image.specs.Line.{headerLine, clockLine, heldHeader, heldContents, storeLine}
 use Rattle.image.specs.Requires.{Slots, slot}
 use Rattle.transient.specs.declared.sizes.Sizes.{Sizes}

@@ -6,7 +6,7 @@ use lib.Dec.{leb, eqb, ltb}
 use Rattle.reply.specs.declared.Check.{Check}
 use Rattle.reply.specs.declared.Check.the-variants.{Accepted, Refused}
 use Rattle.reply.specs.declared.Refusal.the-variants.{NoLine}
-use Rattle.reply.specs.Refusals.{refuse, andThen}
+use Rattle.reply.specs.Refusals.{refuse}
 use Rattle.image.specs.Line.{Line, heldHeader, heldContents, storeLine}
 use Rattle.transient.specs.declared.sizes.Sizes.{Sizes}
 use Rattle.transient.specs.Store.{Store, tableOf, sizesOf, Outcome, outcome, afterCheck}

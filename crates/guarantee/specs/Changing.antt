@@ -1,30 +1,26 @@
 -- What a call on jobs leaves is good, beside what the reference map makes of its reply: by the shapes that definitions are made of.
-use Prim.Native.Nat.{ℕ, _+_, _-_, _≤_, _<_}
-use mathlib.Core.Path.{_≡_, refl, sym, _∙_}
-use mathlib.Core.Bool.{Bool, true, false, not, cond}
+use Prim.Native.Nat.{ℕ, _<_}
+use mathlib.Core.Path.{_≡_, refl}
+use mathlib.Core.Bool.{Bool, true, false}
 use mathlib.Core.Logic.{_≢_}
 use mathlib.Core.List.{List}
 use lib.ListN.{length}
-use lib.Dec.{leb, eqb}
-use borrow.Author.Tests.{leb-false, eqb-true, eqb-false, not-false}
 use native.Mathlib.Omega.{arith}
-use Rattle.search.specs.Bools.{or-left, or-right}
 use Rattle.reply.specs.declared.Check.{Check}
 use Rattle.reply.specs.declared.Check.the-variants.{Accepted, Refused}
 use Rattle.reply.specs.declared.Refusal.{Refusal}
-use Rattle.reply.specs.declared.Refusal.the-variants.{NoThread, NotOpen, BadArgument}
-use Rattle.image.specs.Layout.{slotsOf, widthOf}
+use Rattle.image.specs.Layout.{slotsOf}
 use Rattle.image.specs.Name.{Name}
 use Rattle.transient.specs.declared.sizes.Sizes.{Sizes}
-use Rattle.transient.specs.Layout.{threadsOf, transientWords, lastTaken, openEpoch}
+use Rattle.transient.specs.Layout.{threadsOf, lastTaken, openEpoch}
 use Rattle.transient.specs.Store.{Store, Table, store, table, tableOf, sizesOf, Outcome, afterCheck}
 use Rattle.transient.specs.Entry.{entryCheck}
 use Rattle.transient.specs.Calls.{Changed, refused, declines, inStore, onStore}
 use Rattle.transient.specs.Passed.{entry-with}
 use Rattle.jobs.specs.declared.way.Way.{Way}
 use Rattle.jobs.specs.declared.way.Way.the-variants.{Open, Declined}
-use Rattle.jobs.specs.Job.{Job, badJob}
 use Rattle.jobs.specs.Way.{wayIn, byWay}
+use Rattle.jobs.specs.Laws.{way-operating}
 use Rattle.crash.specs.Reference.{Jobs, Act, Value}
 use Rattle.guarantee.specs.Trace.{Plain, toldChange}
 use Rattle.guarantee.specs.Good.{Good}
@@ -42,20 +38,13 @@ module _ (P : Changed → Type 0) (sz : Sizes) (tb : Table) (thread : ℕ) (bad 
   e = openEpoch (tb .transient) thread
 
   pub way-way : ((r : Refusal) → P (refused r tb)) → (thread < sz .t → e ≢ 0 → bad ≡ false → P (next e)) → P (byWay (wayIn sz (tb .transient) thread bad) tb next)
-  unfolding wayIn
-  way-way declined goes = first (leb (sz .t) thread) refl
+  way-way declined goes = go (wayIn sz (tb .transient) thread bad) refl
     where
-      third : (b : Bool) → bad ≡ b → thread < sz .t → e ≢ 0 → P (byWay (cond b (Declined BadArgument) (Open e)) tb next)
-      third true q h d = declined BadArgument
-      third false q h d = goes h d q
-
-      second : (b : Bool) → eqb e 0 ≡ b → thread < sz .t → P (byWay (cond b (Declined NotOpen) (cond bad (Declined BadArgument) (Open e))) tb next)
-      second true q h = declined NotOpen
-      second false q h = third bad refl h (eqb-false e 0 q)
-
-      first : (b : Bool) → leb (sz .t) thread ≡ b → P (byWay (cond b (Declined NoThread) (cond (eqb e 0) (Declined NotOpen) (cond bad (Declined BadArgument) (Open e)))) tb next)
-      first true q = declined NoThread
-      first false q = second (eqb e 0) refl (leb-false (sz .t) thread q)
+      go : (k : Way) → wayIn sz (tb .transient) thread bad ≡ k → P (byWay k tb next)
+      go (Declined r) q = declined r
+      go (Open d) q =
+          let o = way-operating sz (tb .transient) thread bad q in
+          rw (← o .epoch) (goes (o .within) (rw (← o .epoch) at (o .some)) (o .fine))
 
 -- refusals 1 and 2, or the call's own part
 pub call-way : (P : Outcome Check → Type 0) (st : Store) (call : Sizes → Table → Changed) → ((r : Refusal) → P (record { reply = Refused r; store = st }))
@@ -103,13 +92,3 @@ pub fine-call : {sz : Sizes} {start : Jobs} {st : Store} {p : Plain} {act : Act}
 fine-call {sz} {start} {st} {p} {act} {thread} {name} {v} call g h =
     call-way (λ a. Good sz start (a .store) (toldChange act thread name v (a .reply) p)) st call (λ r. g)
     (λ e. rw (sizes-is g) (h e .good))
-
--- ---- 8
-module _ (sz : Sizes) (j : Job) (c : badJob sz j ≡ false) where
-  pub bad-key : j .key ≢ 0
-  unfolding badJob
-  bad-key = eqb-false (j .key) 0 (or-left (eqb (j .key) 0) _ c)
-
-  pub bad-words : 2 ≤ sz .w → length (j .value) + 1 ≡ sz .w
-  unfolding badJob
-  bad-words h = let q = eqb-true (length (j .value)) (sz .w - 1) (not-false _ (or-right (eqb (j .key) 0) _ c)) in omega arith

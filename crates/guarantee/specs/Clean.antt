@@ -18,7 +18,7 @@ use Rattle.image.specs.Name.{Name, keyOf, nameAt}
 use Rattle.image.specs.Laws.{name-contents, value-contents}
 use Rattle.transient.specs.declared.sizes.Sizes.{Sizes}
 use Rattle.transient.specs.Layout.{threadsOf, threadsOk, nextUidOf, placePhase, placeSlot, openEpoch, retiredIn, blank}
-use Rattle.transient.specs.Store.{Store, store, table, tableOf, sizesOf}
+use Rattle.transient.specs.Store.{Store, store, tableOf, sizesOf}
 use Rattle.transient.specs.Requires.{Notes}
 use Rattle.transient.specs.Laws.{threads-head, blank-length, blank-uid, blank-phase, blank-open, blank-retired}
 use Rattle.survival.specs.Survivors.{kept, wins, survives, survivor}

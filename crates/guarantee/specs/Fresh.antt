@@ -1,5 +1,5 @@
 -- What format leaves: an image that recovery accepts, in which nothing survives.
-use Prim.Native.Nat.{ℕ, _+_, _-_, _≤_, _<_}
+use Prim.Native.Nat.{ℕ, _+_, _≤_}
 use mathlib.Core.Path.{_≡_, refl, _∙_}
 use mathlib.Core.Bool.{Bool, true, false}
 use mathlib.Core.Logic.{_⊎_, inl, inr}
@@ -15,16 +15,13 @@ use Rattle.image.specs.Layout.{headerAt, imageWords, filledKind, header, slotsO
 use Rattle.image.specs.Requires.{InRange}
 use Rattle.image.specs.Laws.{sizes-true}
 use Rattle.transient.specs.Layout.{threadsOk}
-use Rattle.transient.specs.Store.{Store, tableOf, sizesOf}
+use Rattle.transient.specs.Store.{Store}
 use Rattle.transient.specs.Laws.{zeros-at}
 use Rattle.survival.specs.Survivors.{kept, survivor}
 use Rattle.acceptance.specs.Accept.{nameless, versionBelow, nameBelow, imageCheck}
 use Rattle.acceptance.specs.Sound.{says-accepted}
 use Rattle.format.specs.Format.{freshImage, formatFits, freshStore, format}
 use Rattle.guarantee.specs.Says.{filled-says}
-use Rattle.guarantee.specs.Trace.{startOf}
-use Rattle.guarantee.specs.Promise.{jobsOf}
-use Rattle.guarantee.specs.Good.{Good}
 use Rattle.guarantee.specs.Clean.{Begins, blank-clean, survivor-kept, free-proper, clean-good}
 
 module _ (n w : ℕ) (sizes : InRange n w) where

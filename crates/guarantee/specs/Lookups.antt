@@ -3,9 +3,8 @@ use Prim.Native.Nat.{ℕ, _≤_, _<_}
 use mathlib.Core.Path.{_≡_, refl, sym, _∙_}
 use mathlib.Core.Bool.{true, false}
 use mathlib.Core.Logic.{_≢_, ⊎-elim}
-use mathlib.Core.List.{List}
 use lib.Dec.{leb, eqb}
-use borrow.Author.Tests.{eqb-true, leb-true, le-leb, eq-eqb, lt-ltb, not-true}
+use borrow.Author.Tests.{eqb-true, eq-eqb, lt-ltb, not-true}
 use native.Mathlib.Omega.{arith}
 use native.Mathlib.Decide.{ℕ-discrete, decLt, decLe}
 use Rattle.search.specs.Bools.{cases, never, and-both, and-left, and-right}
@@ -15,7 +14,7 @@ use Rattle.search.specs.Count.{count}
 use Rattle.search.specs.Ring.{firstRound, round-found}
 use Rattle.search.specs.declared.Found.{Found}
 use Rattle.search.specs.declared.Found.the-variants.{At, Nothing}
-use Rattle.image.specs.Layout.{filledKind, payloadKind, header}
+use Rattle.image.specs.Layout.{payloadKind, header}
 use Rattle.image.specs.Name.{Name, nameAt, same-name, name-same}
 use Rattle.image.specs.Laws.{name-contents}
 use Rattle.transient.specs.declared.sizes.Sizes.{Sizes}

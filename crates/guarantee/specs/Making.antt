@@ -21,6 +21,7 @@ use Rattle.table.specs.declared.find.Lookup.{Lookup}
 use Rattle.table.specs.declared.find.Lookup.the-variants as look
 use Rattle.table.specs.Find.{lookup, room, freeAt}
 use Rattle.jobs.specs.Job.{Job, jobWords, badJob}
+use Rattle.jobs.specs.Laws.{job-named, job-words}
 use Rattle.job_new.specs.New.{newAt, newIn, newAbsent, newLooked, newOpen, newSized, newJob}
 use Rattle.crash.specs.Reference as ref
 use Rattle.crash.specs.Reference.{Jobs}
@@ -31,7 +32,7 @@ use Rattle.guarantee.specs.Notes.{made-joins}
 use Rattle.guarantee.specs.Images.{wrote-image, filled-wrote}
 use Rattle.guarantee.specs.Frame.{operation-of, change-put, change-joins, good-change, row-epoch}
 use Rattle.guarantee.specs.Lookups.{Missing, absent-says, room-says, free-says, no-later-of, no-live-of}
-use Rattle.guarantee.specs.Changing.{Fine, fine-refused, fine-declines, fine-way, fine-call, last-below, bad-key, bad-words}
+use Rattle.guarantee.specs.Changing.{Fine, fine-refused, fine-declines, fine-way, fine-call, last-below}
 
 module _ {sz : Sizes} {start : Jobs} {wk l tr : List ℕ} {p : Plain} (thread : ℕ) (j : Job) (g : Good sz start (store wk l tr) p)
     (within : thread < sz .t) (begun : openEpoch tr thread ≢ 0) (named : j .key ≢ 0) (words : length (j .value) + 1 ≡ sz .w) where
@@ -89,4 +90,4 @@ unfolding newJob newSized
 new-good {sz} {start} {st} {p} thread j g =
     fine-call (newSized thread j) g
     (λ a. fine-way g (badJob sz j) _
-    (λ h b c. opened-fine thread j g h b (bad-key sz j c) (bad-words sz j c (g .working .sized .sizes .width-lo)) (last-below g a)))
+    (λ h b c. opened-fine thread j g h b (job-named sz j c) (omega (arith, job-words sz j c, g .working .sized .sizes .width-lo)) (last-below g a)))

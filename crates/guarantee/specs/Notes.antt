@@ -6,7 +6,7 @@ use mathlib.Core.Bool.{true}
 use mathlib.Core.Logic.{_≢_}
 use mathlib.Core.List.{List}
 use Rattle.transient.specs.declared.sizes.Sizes.{Sizes}
-use Rattle.transient.specs.Layout.{nextUidOf, retiredIn, isWaiting, setLast, setNextUid, setRetired, setWaiting}
+use Rattle.transient.specs.Layout.{nextUidOf, retiredIn, isWaiting, setNextUid, setRetired, setWaiting}
 use Rattle.transient.specs.Requires.{Notes, notes-after}
 use Rattle.transient.specs.Laws.{HeadKept, SlotKept, head-then, slot-then, last-head, last-slots, last-uid, uid-head, uid-slots, retired-front, waiting-front, uid-set, retired-same, retired-waiting, retired-aside, waiting-joined, waiting-stays, waiting-retired, waiting-aside}
 use Rattle.table.specs.Fill.{joined, taken}

@@ -1,6 +1,6 @@
 -- Set and delete keep the invariant: in the version's own slot, or by a later version.
 use Prim.Native.Nat.{ℕ, _+_, _-_, _≤_, _<_}
-use mathlib.Core.Path.{_≡_, refl, sym, _∙_}
+use mathlib.Core.Path.{_≡_, refl, sym}
 use mathlib.Core.Bool.{true, false}
 use mathlib.Core.Logic.{_≢_, ⊎-elim}
 use mathlib.Core.List.{List, []}
@@ -20,6 +20,7 @@ use Rattle.table.specs.declared.find.Lookup.{Lookup}
 use Rattle.table.specs.declared.find.Lookup.the-variants as look
 use Rattle.table.specs.Find.{newer, lookup}
 use Rattle.jobs.specs.Job.{Job, job, badJob}
+use Rattle.jobs.specs.Laws.{job-words}
 use Rattle.job_set.specs.Set.{rewritten, updated, setAt, setLooked, setOpened, setSized, setJob}
 use Rattle.job_delete.specs.Delete.{freedAt, turned, covered, deleteAt, deleteLooked, deleteOpen, deleteSized, deleteJob}
 use Rattle.crash.specs.Table.{Put}
@@ -38,7 +39,7 @@ use Rattle.guarantee.specs.Notes.{waiting-joins, joined-joins}
 use Rattle.guarantee.specs.Images.{wrote-image, header-wrote, value-wrote}
 use Rattle.guarantee.specs.Frame.{operation-of, change-put, change-joins, good-change, row-epoch}
 use Rattle.guarantee.specs.Lookups.{Holding, Lives, live-says, live-of, no-later-of}
-use Rattle.guarantee.specs.Changing.{Fine, fine-refused, fine-way, fine-call, last-below, bad-words}
+use Rattle.guarantee.specs.Changing.{Fine, fine-refused, fine-way, fine-call, last-below}
 use Rattle.guarantee.specs.Superseding.{super-fine}
 
 -- ---- in place, with the entry, the retirement and the name as the call has them
@@ -180,7 +181,7 @@ module _ {sz : Sizes} {start : Jobs} {st : Store} {p : Plain} (thread : ℕ) (g 
   set-good j =
       fine-call (setSized thread j) g
       (λ a. fine-way g (badJob sz j) _
-      (λ h b c. set-opened-fine thread g h b (last-below g a) j (bad-words sz j c (g .working .sized .sizes .width-lo))))
+      (λ h b c. set-opened-fine thread g h b (last-below g a) j (omega (arith, job-words sz j c, g .working .sized .sizes .width-lo))))
 
   pub delete-good : (key : ℕ) → Good sz start (deleteJob st thread key .store) (toldChange ref.dropped thread (jobName key) [] (deleteJob st thread key .reply) p)
   unfolding deleteJob deleteSized

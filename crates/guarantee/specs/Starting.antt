@@ -1,5 +1,5 @@
 -- The start: what format or a finished recovery leaves has the invariant.
-use Prim.Native.Nat.{ℕ, _+_, _-_, _≤_, _<_}
+use Prim.Native.Nat.{ℕ}
 use mathlib.Core.Path.{_≡_, refl, _∙_}
 use mathlib.Core.Bool.{true, not}
 use mathlib.Core.List.{List}
@@ -17,10 +17,10 @@ use Rattle.reply.specs.declared.Refusal.the-variants.{BadSizes}
 use Rattle.reply.specs.Refusals.{not-refused, both-accepted}
 use Rattle.image.specs.Layout.{slotsOf, widthOf}
 use Rattle.transient.specs.Layout.{threadsOk}
-use Rattle.transient.specs.Store.{Store, tableOf, sizesOf, afterCheck}
+use Rattle.transient.specs.Store.{Store, afterCheck}
 use Rattle.survival.specs.Survivors.{survivor}
 use Rattle.acceptance.specs.Accept.{headCheck, slotsCheck, imageCheck}
-use Rattle.recovery.specs.declared.Recovery.the-variants.{WentOn, Done, Declined}
+use Rattle.recovery.specs.declared.Recovery.the-variants.{Done, Declined}
 use Rattle.recovery.specs.Recover.{nextFreed, uidOf, nextUid, lengthsFit, recoverEntryCheck, recoverCheck, finished, freeing, recover}
 use Rattle.recovery.specs.Steps.{filledAt, done-survivors}
 use Rattle.guarantee.specs.Promise.{Started, fresh, recovered}

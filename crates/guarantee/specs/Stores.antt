@@ -1,14 +1,11 @@
 -- The moments of a run are one after each single store into persistent: from each to the next at most one line changes there.
 use Prim.Native.Nat.{ℕ, zero, suc, _*_}
-use mathlib.Core.Path.{_≡_}
-use mathlib.Core.Bool.{Bool, true, false, cond}
 use mathlib.Core.List.{List, [], _∷_, _++_}
-use lib.Dec.{eqb}
 use Rattle.reply.specs.declared.Check.{Check}
 use Rattle.reply.specs.declared.Check.the-variants.{Accepted, Refused}
 use Rattle.image.specs.declared.header.Header.{Header}
 use Rattle.image.specs.Layout.{slotsOf}
-use Rattle.image.specs.Line.{Line, headerLine, contentsLine, clockLine, storeLine}
+use Rattle.image.specs.Line.{headerLine, contentsLine, clockLine, storeLine}
 use Rattle.transient.specs.declared.sizes.Sizes.{Sizes}
 use Rattle.transient.specs.Store.{Store, Table}
 use Rattle.transient.specs.Calls.{Changed, onStore}

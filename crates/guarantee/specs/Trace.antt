@@ -1,5 +1,5 @@
 -- A run of calls on one store, and beside it the reference map (01: "the plain board"), fed the calls' arguments and replies.
-use Prim.Native.Nat.{ℕ, zero, suc, _+_, _*_}
+use Prim.Native.Nat.{ℕ, zero, suc, _*_}
 use mathlib.Core.Bool.{cond}
 use mathlib.Core.List.{List, [], _∷_, _++_}
 use lib.Dec.{eqb}

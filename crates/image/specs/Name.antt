@@ -46,10 +46,6 @@ pub name-same : (a b : Name) → a ≡ b → sameName a b ≡ true
 unfolding sameName
 name-same a b e = eq-eqb a b e
 
-pub other-name : (a b : Name) → sameName a b ≡ false → a ≢ b
-unfolding sameName
-other-name a b e = eqb-false a b e
-
 pub name-other : (a b : Name) → a ≢ b → sameName a b ≡ false
 unfolding sameName
 name-other a b e = ne-eqb a b e
@@ -61,10 +57,6 @@ unnamed-true a e = eqb-true (keyOf a) 0 e
 pub unnamed-false : (a : Name) → unnamed a ≡ false → Named a
 unfolding unnamed
 unnamed-false a e = eqb-false (keyOf a) 0 e
-
-pub named-not : (a : Name) → Named a → unnamed a ≡ false
-unfolding unnamed
-named-not a e = ne-eqb (keyOf a) 0 e
 
 pub name-dec : Discrete Name
 name-dec = ℕ-discrete

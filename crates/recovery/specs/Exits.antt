@@ -1,17 +1,16 @@
 -- The ways out of recover's functions.
-use Prim.Native.Nat.{ℕ, _+_, _-_, _≤_, _<_, _^_}
+use Prim.Native.Nat.{ℕ, _+_, _≤_, _<_, _^_}
 use mathlib.Core.Path.{_≡_, refl, sym, ap, _∙_}
 use mathlib.Core.Bool.{Bool, true, false, not, _&&_}
 use mathlib.Core.List.{List}
-use mathlib.Core.Logic.{⊎-elim}
-use lib.ListN.{length, getD, set}
-use lib.Dec.{ltb, leb, eqb}
+use lib.ListN.{length, getD}
+use lib.Dec.{leb, eqb}
 use mir.Val.{Fits}
 use mir.Syntax.{w32}
 use borrow.Author.Tests.{lt-ltb, le-ltb, eq-eqb, ne-eqb, eqb-true, leb-true, not-false}
 use native.Mathlib.Omega.{arith}
-use Rattle.search.specs.Bools.{cases, and-left, and-right, tests}
-use Rattle.search.specs.First.{firstOf, First, found-first, loops as firsts}
+use Rattle.search.specs.Bools.{and-left, and-right, tests}
+use Rattle.search.specs.First.{firstOf, found-first, loops as firsts}
 use Rattle.search.specs.Largest.{largest, raised, largest-top, loops as climbs}
 use Rattle.search.specs.declared.Found.{Found}
 use Rattle.search.specs.declared.Found.the-variants.{At, Nothing}
@@ -25,13 +24,13 @@ use Rattle.image.specs.Layout.{mostSlots, mostNumber, filledKind, header, slots
 use Rattle.image.specs.Line.{headerLine, stored, storeLine}
 use Rattle.image.specs.Requires.{HeaderFits}
 use Rattle.image.specs.Laws.{shaped, stored-whole}
-use Rattle.transient.specs.Layout.{headWords, threadsOf, threadsOk, blank}
+use Rattle.transient.specs.Layout.{threadsOf, threadsOk, blank}
 use Rattle.transient.specs.Store.{store, Outcome, outcome}
 use Rattle.transient.specs.Requires.{Blanking}
 use Rattle.survival.specs.Survivors.{survivor, keptAnti}
 use Rattle.survival.specs.Requires.{Headers, Marked, AllMarked, headers-of, header-in, marks}
 use Rattle.survival.specs.Laws.{flag-is}
-use Rattle.acceptance.specs.Accept.{headCheck, slotsCheck, proper}
+use Rattle.acceptance.specs.Accept.{headCheck, slotsCheck}
 use Rattle.acceptance.specs.Sound.{Sound, sound, uid-top}
 use Rattle.recovery.specs.declared.Recovery.{Recovery}
 use Rattle.recovery.specs.declared.Recovery.the-variants.{WentOn, Done, Declined}

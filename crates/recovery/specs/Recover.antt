@@ -1,5 +1,5 @@
 -- 01, "Recovery": one recover call, from a store to a reply and a store.
-use Prim.Native.Nat.{ℕ, _+_, _-_}
+use Prim.Native.Nat.{ℕ, _+_}
 use mathlib.Core.Bool.{Bool, not, _&&_}
 use mathlib.Core.List.{List}
 use lib.ListN.{length}
@@ -9,7 +9,6 @@ use Rattle.search.specs.Largest.{largest}
 use Rattle.search.specs.declared.Found.{Found}
 use Rattle.search.specs.declared.Found.the-variants.{At, Nothing}
 use Rattle.reply.specs.declared.Check.{Check}
-use Rattle.reply.specs.declared.Check.the-variants.{Accepted, Refused}
 use Rattle.reply.specs.declared.Refusal.the-variants.{BadSizes}
 use Rattle.reply.specs.Refusals.{refuse, andThen, declinedNumber}
 use Rattle.image.specs.Layout.{filledKind, header, slotsOf, widthOf, clockOf, freeHeader}

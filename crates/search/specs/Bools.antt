@@ -1,6 +1,6 @@
 -- Tests, which are Bools: their cases, the parts of `&&`, `||` and `not`, and the number that stands for a flag.
 use Prim.Native.Nat.{ℕ}
-use mathlib.Core.Path.{_≡_, refl, sym, _∙_}
+use mathlib.Core.Path.{_≡_, refl, sym}
 use mathlib.Core.Bool.{Bool, true, false, cond, not, _&&_, _||_, true≢false, false≢true}
 use mathlib.Core.Logic.{_⊎_, inl, inr}
 use borrow.Author.Tests.{lt-ltb, le-ltb, le-leb, lt-leb, eq-eqb, ne-eqb}
@@ -50,9 +50,6 @@ or-left false b h = refl
 pub or-right : (a b : Bool) → a || b ≡ false → b ≡ false
 or-right true b h = absurd (true≢false h)
 or-right false b h = h
-
-pub or-neither : {a b : Bool} → a ≡ false → b ≡ false → a || b ≡ false
-or-neither s t = rw (s, t)
 
 -- a flag in memory: 1 for true
 abbrev pub flag : Bool → ℕ

@@ -6,7 +6,7 @@ use mathlib.Core.Bool.{Bool, true, false, cond}
 use native.Mathlib.Nat.{eq-or-lt-of-le}
 use native.Mathlib.Numerals.{add-one}
 use native.Mathlib.Omega.{arith}
-use Rattle.search.specs.Bools.{cases, never}
+use Rattle.search.specs.Bools.{cases}
 
 unfoldable pub count : (ℕ → Bool) → ℕ → ℕ
 count p zero = 0

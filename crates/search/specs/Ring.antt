@@ -49,21 +49,6 @@ module _ (n last k : ℕ) where
   unfolding ringSlot
   ring-next = let e : last + 1 + 1 + k ≡ last + 1 + (k + 1) = omega arith in rw e
 
--- every slot is met
-pub record Met (n last s : ℕ) : Type 0 where
-  pub steps : ℕ
-  pub below : steps < n
-  pub is : ringSlot n last steps ≡ s
-
-pub ring-meets : (n last s : ℕ) → last < n → s < n → Met n last s
-ring-meets n last s h l =
-    elim (decLt last s) [
-      | yes a ↦ let k : ℕ = s - (last + 1) in
-          record { steps = k; below = omega arith; is = omega (arith, ring-ahead n last k (omega arith)) }
-      | no a ↦ let k : ℕ = s + n - (last + 1) in
-          record { steps = k; below = omega arith; is = omega (arith, ring-round n last k (omega arith)) }
-    ]
-
 -- ---- how many pass
 -- one index more; index 0 left out and index n taken in; one that passes; none
 count-more : (q : ℕ → Bool) (k : ℕ) → count q (suc k) ≡ count q k + flag (q k)
@@ -135,11 +120,6 @@ round-found p n last steps s h l e =
     let a = stepped p n last steps s e in
     let b : a .at < steps = a .first .below in
     (omega (arith, ring-below n last (a .at) h (omega arith)), rw (a .is) at (a .first .passes))
-
--- all the way round: whether there is one
-pub round-some : (p : ℕ → Bool) (n last : ℕ) → last < n → firstRound p n last n ≡ Nothing → leb 1 (count p n) ≡ false
-round-some p n last h e =
-    lt-leb 1 (count p n) (omega (arith, ring-count p n last h, count-none _ n (missed p n last n e)))
 
 pub round-one : (p : ℕ → Bool) (n last s : ℕ) → last < n → firstRound p n last n ≡ At s → leb 1 (count p n) ≡ true
 round-one p n last s h e =

@@ -1,13 +1,13 @@
 -- "Some" and "every" as tests over the indices below n. A loop for either is a search (`Sought`).
 use Prim.Native.Nat.{ℕ, _+_, _≤_, _<_}
-use mathlib.Core.Path.{_≡_, refl, sym, ap, _∙_}
+use mathlib.Core.Path.{_≡_, ap}
 use mathlib.Core.Bool.{Bool, true, false, not}
 use mathlib.Core.Logic.{⊎-elim}
 use lib.Dec.{ltb}
 use borrow.Author.Tests.{lt-ltb, le-ltb, ltb-true, ltb-false, not-false, not-true}
 use native.Mathlib.Omega.{arith}
 use Rattle.search.specs.Bools.{cases, never, not-is-true, not-is-false}
-use Rattle.search.specs.First.{first, first-at, first-before, first-top, first-same, Sought, sought-start, sought-next, sought-hit, sought-end}
+use Rattle.search.specs.First.{first, first-at, first-before, first-same, Sought, sought-start, sought-next, sought-hit, sought-end}
 
 unfoldable pub anyOf : (ℕ → Bool) → ℕ → Bool
 anyOf p n = ltb (first p 0 n) n
@@ -69,22 +69,6 @@ every-at p n t s h = not-false (p s) (some-none (λ k. not (p k)) n (not-true _ 
 pub at-every : (p : ℕ → Bool) (n : ℕ) → ((s : ℕ) → s < n → p s ≡ true) → every p n ≡ true
 unfolding every
 at-every p n h = not-is-true (none-some (λ k. not (p k)) n (λ s l. not-is-false (h s l)))
-
-pub every-same : (p q : ℕ → Bool) (n : ℕ) → ((s : ℕ) → s < n → p s ≡ q s) → every p n ≡ every q n
-unfolding every
-every-same p q n h = ap not (some-same (λ s. not (p s)) (λ s. not (q s)) n (λ s l. ap not (h s l)))
-
--- an index below n that fails
-pub record Failing (p : ℕ → Bool) (n : ℕ) : Type 0 where
-  pub at : ℕ
-  pub below : at < n
-  pub fails : p at ≡ false
-
-pub every-not : (p : ℕ → Bool) (n : ℕ) → every p n ≡ false → Failing p n
-unfolding every
-every-not p n f =
-    let a = some-one (λ k. not (p k)) n (not-false _ f) in
-    record { at = a .at; below = a .below; fails = not-true _ (a .passes) }
 
 -- a loop has passed i of n, each of which passes
 pub record Held (p : ℕ → Bool) (n i : ℕ) : Type 0 where
