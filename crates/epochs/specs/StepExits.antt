@@ -1,10 +1,12 @@
 -- The ways out of a step: what is due, what waits, the lines, and the step by its phase.
 use Prim.Native.Nat.{ℕ, _+_, _-_, _≤_, _<_}
 use mathlib.Core.Path.{_≡_, refl, sym, _∙_}
-use mathlib.Core.Bool.{Bool, true, false, not, _&&_}
+use mathlib.Core.Bool.{Bool, true, false, not, cond, _&&_}
+use mathlib.Core.Logic.{⊎-elim}
 use mathlib.Core.List.{List}
 use lib.Dec.{eqb}
 use borrow.Author.Tests.{lt-ltb, le-ltb, eq-eqb, ne-eqb}
+use Rattle.search.specs.Bools.{cases}
 use Rattle.search.specs.declared.Found.{Found}
 use Rattle.search.specs.declared.Found.the-variants.{At, Nothing}
 use Rattle.image.specs.declared.header.Header.{Header}
@@ -114,6 +116,27 @@ pub passing-over : (n s phase next : ℕ) → n ≤ s + 1 → place next 0 ≡ p
 unfolding passing
 passing-over n s phase next h = rw (le-ltb (s + 1) n h)
 
+-- where reclaiming goes on, or begins
+unfoldable pub reclaimAt : Place → ℕ
+reclaimAt p = cond (eqb (p .phase) reclaimNext) (p .slot) 0
+
+module _ (p : Place) where
+  pub reclaim-on : p .phase ≡ reclaimNext → p .slot ≡ reclaimAt p
+  unfolding reclaimAt
+  reclaim-on h = rw (eq-eqb (p .phase) reclaimNext h)
+
+  pub reclaim-first : (p .phase ≡ reclaimNext → ⊥) → 0 ≡ reclaimAt p
+  unfolding reclaimAt
+  reclaim-first h = rw (ne-eqb (p .phase) reclaimNext h)
+
+  pub going-reclaim : {wk l tr : List ℕ} {z : Sizes} {c a : ℕ} → Going wk l tr z c (p .slot) → a ≡ reclaimAt p → Going wk l tr z c a
+  unfolding reclaimAt
+  going-reclaim y e =
+      ⊎-elim
+      (λ (t : eqb (p .phase) reclaimNext ≡ true). let f = rw t at e in rw f y)
+      (λ (t : eqb (p .phase) reclaimNext ≡ false). let f = rw t at e in rw f (going-first y))
+      (cases (eqb (p .phase) reclaimNext))
+
 -- ---- one line, or the tick
 module _ (z : Sizes) (wk l tr : List ℕ) where
   pub reclaim-done : (s : ℕ) {wk′ l′ tr′ : List ℕ} {p : Place} → Freed wk l s wk′ l′ → tr′ ≡ setRetired z tr s 0 → p ≡ passing (z .n) s reclaimNext contentsNext
@@ -151,10 +174,6 @@ module _ (z : Sizes) (wk l tr : List ℕ) where
 
   -- by the phase
   module _ (c : ℕ) (p : Place) {x : Stepped} where
-    pub step-reclaim : p .phase ≡ reclaimNext → x ≡ reclaimFrom z (store wk l tr) c (p .slot) → x ≡ step z (store wk l tr) c p
-    unfolding step
-    step-reclaim a e = rw a e
-
     pub step-contents : p .phase ≡ contentsNext → x ≡ flushFrom z (store wk l tr) c (p .slot) → x ≡ step z (store wk l tr) c p
     unfolding step
     step-contents a e = rw a e
@@ -167,11 +186,16 @@ module _ (z : Sizes) (wk l tr : List ℕ) where
     unfolding step
     step-tick a e = rw a e
 
-    pub step-begin : (p .phase ≡ reclaimNext → ⊥) → (p .phase ≡ contentsNext → ⊥) → (p .phase ≡ headerNext → ⊥) → (p .phase ≡ clockNext → ⊥) → x ≡ reclaimFrom z (store wk l tr) c 0
+    pub step-reclaim : {a : ℕ} → (p .phase ≡ contentsNext → ⊥) → (p .phase ≡ headerNext → ⊥) → (p .phase ≡ clockNext → ⊥) → a ≡ reclaimAt p → x ≡ reclaimFrom z (store wk l tr) c a
         → x ≡ step z (store wk l tr) c p
-    unfolding step
-    step-begin a b d f e =
-        rw (ne-eqb (p .phase) reclaimNext a, ne-eqb (p .phase) contentsNext b, ne-eqb (p .phase) headerNext d, ne-eqb (p .phase) clockNext f) e
+    unfolding step reclaimAt
+    step-reclaim b d f g e =
+        ⊎-elim
+        (λ (y : eqb (p .phase) reclaimNext ≡ true). let h = rw y at g in rw y (rw h at e))
+        (λ (y : eqb (p .phase) reclaimNext ≡ false).
+        let h = rw y at g in
+        rw (y, ne-eqb (p .phase) contentsNext b, ne-eqb (p .phase) headerNext d, ne-eqb (p .phase) clockNext f) (rw h at e))
+        (cases (eqb (p .phase) reclaimNext))
 
 pub ruleset dues = (froms, slot-note, slot-head, retired-none, retired-due, payload-young, payload-kind, due-payload, due-delete, due-other, due-start, due-slot, due-is)
 
@@ -181,4 +205,4 @@ pub ruleset lines = (slots-first, slots-second, header-written, freed-both, pass
 
 pub ruleset steps = (requires-laws, going-due, going-wait, reclaim-done, header-done, tick-done, flush-line, flush-tick, reclaim-one, reclaim-none)
 
-pub ruleset stepping = (going-advancing, going-first, step-reclaim, step-contents, step-header, step-tick, step-begin)
+pub ruleset stepping = (going-advancing, going-reclaim, reclaim-on, reclaim-first, step-contents, step-header, step-tick, step-reclaim)

@@ -9,6 +9,7 @@ ghost use Rattle.transient.specs.Store.{store};
 ghost use Rattle.epochs.specs.Advance.{passing, reclaimed, headerFlushed, ticking, flushFrom, reclaimFrom, step};
 ghost use Rattle.epochs.specs.Requires.{Advancing, Going};
 ghost use Rattle.epochs.specs.Moved.{moved};
+ghost use Rattle.epochs.specs.StepExits.{reclaimAt};
 
 // Whether a step ticked, and the place that comes after it.
 pub struct Moved {
@@ -72,7 +73,8 @@ fn flush_header(
     }
 }
 
-// The clock goes up in both images, and what waited for that is flushed.
+// The clock goes up in both images, and what waited for that is flushed. The list is emptied first: after a store into an image the
+// sizes would be read again, and a step that grows by that is no longer compiled into its call.
 fn tick(
     working: &mut [u32],
     persistent: &mut [u32],
@@ -83,9 +85,9 @@ fn tick(
     requires { ⌜ Advancing (now working) (now persistent) (now transient) z c ⌝ }
     ensures { λ r. ⌜ moved r (now (working .exit)) (now (persistent .exit)) (now (transient .exit)) ≡ ticking z (store (now (working .entry)) (now (persistent .entry)) (now (transient .entry))) c ⌝ }
 {
+    transient::notes::empty_list(transient, z, c - 1);
     image::shape::set_clock(working, c + 1);
     image::shape::set_clock(persistent, c + 1);
-    transient::notes::empty_list(transient, z, c - 1);
     let place = Place {
         phase: Place::NONE,
         slot: 0,
@@ -142,6 +144,16 @@ fn reclaim_from(
     }
 }
 
+// Where reclaiming goes on, or begins.
+fn reclaim_at(place: Place) -> usize
+    ensures { λ r. ⌜ r ≡ reclaimAt place ⌝ }
+{
+    if place.phase == Place::RECLAIM {
+        return place.slot;
+    }
+    0
+}
+
 // From a place on; where none is underway an advance begins.
 pub fn step(
     working: &mut [u32],
@@ -156,9 +168,6 @@ pub fn step(
 {
     let at = place.slot;
     let phase = place.phase;
-    if phase == Place::RECLAIM {
-        return reclaim_from(working, persistent, transient, z, c, at);
-    }
     if phase == Place::CONTENTS {
         return flush_from(working, persistent, transient, z, c, at);
     }
@@ -168,5 +177,5 @@ pub fn step(
     if phase == Place::CLOCK {
         return tick(working, persistent, transient, z, c);
     }
-    reclaim_from(working, persistent, transient, z, c, 0)
+    reclaim_from(working, persistent, transient, z, c, reclaim_at(place))
 }
