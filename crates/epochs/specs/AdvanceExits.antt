@@ -23,7 +23,7 @@ use Rattle.epochs.specs.declared.Place.{Place}
 use Rattle.epochs.specs.declared.Advance.{Advance}
 use Rattle.epochs.specs.declared.Advance.the-variants.{Declined}
 use Rattle.epochs.specs.Advance.{reclaimNext, clockNext, stepped, place, step, underway, openBelow, advanceCheck, noted, advanceSized, advance}
-use Rattle.epochs.specs.Requires.{Going}
+use Rattle.epochs.specs.Requires.{heldOpen, Going}
 use Rattle.epochs.specs.Moved.{notedPlace}
 use Rattle.epochs.specs.Left.{step-goes}
 
@@ -36,9 +36,6 @@ module _ (tr : List ℕ) {phase : ℕ} (p : phase ≡ placePhase tr) where
   pub underway-is : reclaimNext ≤ phase → leb phase clockNext ≡ underway tr
   unfolding underway
   underway-is h = rw (← p, le-leb reclaimNext phase h)
-
-unfoldable pub heldOpen : Sizes → List ℕ → ℕ → Bool
-heldOpen z tr c = not (underway tr) && openBelow tr (z .t) c
 
 module _ (z : Sizes) (tr : List ℕ) (c : ℕ) where
   module _ {u : Bool} (un : u ≡ underway tr) where

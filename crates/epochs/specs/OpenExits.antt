@@ -10,12 +10,7 @@ use Rattle.transient.specs.Layout.{openEpoch}
 use Rattle.transient.specs.Requires.{thread-of}
 use Rattle.epochs.specs.Advance.{openBelow}
 use Rattle.epochs.specs.Sync.{anyOpen}
-
-unfoldable pub isOpen : List ℕ → ℕ → Bool
-isOpen tr thread = not (eqb (openEpoch tr thread) 0)
-
-unfoldable pub isOpenBelow : List ℕ → ℕ → ℕ → Bool
-isOpenBelow tr c thread = eqb (openEpoch tr thread + 1) c
+use Rattle.epochs.specs.Requires.{isOpen, isOpenBelow}
 
 module _ (tr : List ℕ) where
   pub open-at : (thread : ℕ) {e : ℕ} → e ≡ openEpoch tr thread → not (eqb e 0) ≡ isOpen tr thread

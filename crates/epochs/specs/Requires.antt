@@ -1,14 +1,27 @@
 -- What functions inside require: a store at a step of an advance, from a slot on.
-use Prim.Native.Nat.{ℕ, _+_, _≤_, _<_}
+use Prim.Native.Nat.{ℕ, _+_, _-_, _≤_, _<_}
+use mathlib.Core.Path.{_≡_}
+use mathlib.Core.Bool.{Bool, not, cond, _&&_}
 use mathlib.Core.List.{List}
 use lib.ListN.{length}
+use lib.Dec.{ltb, eqb}
 use mir.Val.{Fits}
 use mir.Syntax.{w32}
 use native.Mathlib.Omega.{arith}
-use Rattle.image.specs.Layout.{mostSlots, mostNumber}
+use Rattle.reply.specs.declared.Check.{Check}
+use Rattle.reply.specs.declared.Check.the-variants.{Accepted}
+use Rattle.reply.specs.declared.Refusal.the-variants.{StillOpen, LastEpoch}
+use Rattle.reply.specs.Refusals.{refuse}
+use Rattle.image.specs.Layout.{mostSlots, mostNumber, payloadKind, header, clockOf, freeHeader}
+use Rattle.image.specs.Line.{headerLine, storeLine}
 use Rattle.image.specs.Requires.{Sized, Slots, HeaderFits, slot, slot-header}
 use Rattle.transient.specs.declared.sizes.Sizes.{Sizes}
+use Rattle.transient.specs.Layout.{openEpoch, retiredIn}
+use Rattle.transient.specs.Store.{Table}
 use Rattle.transient.specs.Requires.{Notes, NoteOf, Shaped, ShapedSlot, EnteredWith, note-of, shaped-slot}
+use Rattle.epochs.specs.declared.Place.{Place}
+use Rattle.epochs.specs.Advance.{reclaimNext, underway, openBelow}
+use Rattle.epochs.specs.Sync.{anyOpen}
 
 -- from slot p on in the waiting list of c - 1
 pub record Waiting (tr : List ℕ) (z : Sizes) (c p : ℕ) : Type 0 where
@@ -74,5 +87,34 @@ module _ {wk l tr : List ℕ} {z : Sizes} {c : ℕ} where
 
     pub going-first : Going wk l tr z c 0
     going-first = record { advancing = y .advancing; within = omega (arith, y .within) }
+
+-- ---- tests and ways that functions inside answer
+unfoldable pub heldOpen : Sizes → List ℕ → ℕ → Bool
+heldOpen z tr c = not (underway tr) && openBelow tr (z .t) c
+
+unfoldable pub isOpen : List ℕ → ℕ → Bool
+isOpen tr thread = not (eqb (openEpoch tr thread) 0)
+
+unfoldable pub isOpenBelow : List ℕ → ℕ → ℕ → Bool
+isOpenBelow tr c thread = eqb (openEpoch tr thread + 1) c
+
+unfoldable pub retiredDue : ℕ → ℕ → Bool
+retiredDue r c = not (eqb r 0) && eqb (r + 2) c
+
+-- a payload retired two epochs ago
+unfoldable pub payloadDue : Sizes → Table → ℕ → ℕ → Bool
+payloadDue z tb c s = payloadKind (header (tb .working) s .kind) && retiredDue (retiredIn z (tb .transient) s) c
+
+-- a slot is free in both images
+pub record Freed (wk l : List ℕ) (s : ℕ) (wk′ l′ : List ℕ) : Type 0 where
+  pub working : wk′ ≡ storeLine wk (headerLine s freeHeader)
+  pub persistent : l′ ≡ storeLine l (headerLine s freeHeader)
+
+-- where reclaiming goes on, or begins
+unfoldable pub reclaimAt : Place → ℕ
+reclaimAt p = cond (eqb (p .phase) reclaimNext) (p .slot) 0
+
+unfoldable pub readyCheck : List ℕ → List ℕ → ℕ → Check
+readyCheck wk tr t = refuse (anyOpen tr t) StillOpen (refuse (ltb (mostNumber - 2) (clockOf wk)) LastEpoch Accepted)
 
 pub ruleset requires-laws = (slots-first, slots-second, with-slots, waiting-note, advancing-working, advancing-persistent, advancing-notes, advancing-next, going-advancing, going-slots, going-shaped, going-note, going-waiting, going-next, going-first)

@@ -1,7 +1,7 @@
 -- The ways out of a step: what is due, what waits, the lines, and the step by its phase.
 use Prim.Native.Nat.{ℕ, _+_, _-_, _≤_, _<_}
 use mathlib.Core.Path.{_≡_, refl, sym, _∙_}
-use mathlib.Core.Bool.{Bool, true, false, not, cond, _&&_}
+use mathlib.Core.Bool.{Bool, true, false, _&&_}
 use mathlib.Core.Logic.{⊎-elim}
 use mathlib.Core.List.{List}
 use lib.Dec.{eqb}
@@ -16,18 +16,15 @@ use Rattle.image.specs.Line.{headerLine, clockLine, heldHeader, heldContents, s
 use Rattle.image.specs.Requires.{Slots, slot}
 use Rattle.transient.specs.declared.sizes.Sizes.{Sizes}
 use Rattle.transient.specs.Layout.{retiredIn, isWaiting, setRetired, emptied}
-use Rattle.transient.specs.Store.{store, Table, table}
+use Rattle.transient.specs.Store.{store, table}
 use Rattle.transient.specs.Requires.{ShapedSlot, slot-note, slot-head}
 use Rattle.epochs.specs.declared.Place.{Place}
 use Rattle.epochs.specs.declared.Advance.the-variants.{WentOn, Ticked}
 use Rattle.epochs.specs.Advance.{idle, reclaimNext, contentsNext, headerNext, clockNext, Stepped, stepped, place, passing, due, dueFrom, reclaimed, waitingFrom, contentsFlushed, headerFlushed, ticking, flushFrom, reclaimFrom, step}
-use Rattle.epochs.specs.Requires.{Waiting, Going, slots-first, slots-second, waiting-note, going-advancing, going-first, requires-laws}
+use Rattle.epochs.specs.Requires.{retiredDue, payloadDue, Freed, reclaimAt, Waiting, Going, slots-first, slots-second, waiting-note, going-advancing, going-first, requires-laws}
 use Rattle.epochs.specs.From.{From, from-start, froms, pairs, due-is, due-between, waiting-is, waiting-between}
 
 -- ---- what is due
-unfoldable pub retiredDue : ℕ → ℕ → Bool
-retiredDue r c = not (eqb r 0) && eqb (r + 2) c
-
 pub retired-none : (r c : ℕ) → r ≡ 0 → false ≡ retiredDue r c
 unfolding retiredDue
 retired-none r c h = rw (eq-eqb r 0 h)
@@ -35,10 +32,6 @@ retired-none r c h = rw (eq-eqb r 0 h)
 pub retired-due : (r c : ℕ) {a b : ℕ} → (r ≡ 0 → ⊥) → a ≡ r → b ≡ c → eqb (a + 2) b ≡ retiredDue r c
 unfolding retiredDue
 retired-due r c h p q = rw (ne-eqb r 0 h, p, q)
-
--- a payload retired two epochs ago
-unfoldable pub payloadDue : Sizes → Table → ℕ → ℕ → Bool
-payloadDue z tb c s = payloadKind (header (tb .working) s .kind) && retiredDue (retiredIn z (tb .transient) s) c
 
 and-none : (a : Bool) → false ≡ a && false
 and-none true = refl
@@ -99,11 +92,6 @@ module _ {wk l tr : List ℕ} {z : Sizes} {c p s : ℕ} {f : Found} (y : Going w
 pub header-written : (wk l : List ℕ) (s : ℕ) {h : Header} {l′ : List ℕ} → h ≡ header wk s → l′ ≡ storeLine l (headerLine s h) → l′ ≡ storeLine l (heldHeader wk s)
 header-written wk l s at e = rw (← at) e
 
--- a slot is free in both images
-pub record Freed (wk l : List ℕ) (s : ℕ) (wk′ l′ : List ℕ) : Type 0 where
-  pub working : wk′ ≡ storeLine wk (headerLine s freeHeader)
-  pub persistent : l′ ≡ storeLine l (headerLine s freeHeader)
-
 pub freed-both : (wk l : List ℕ) (s : ℕ) {g h : Header} {wk′ l′ : List ℕ} → g ≡ freeHeader → wk′ ≡ storeLine wk (headerLine s g) → h ≡ freeHeader → l′ ≡ storeLine l (headerLine s h) → Freed wk l s wk′ l′
 freed-both wk l s a p b q = record { working = rw a at p; persistent = rw b at q }
 
@@ -115,10 +103,6 @@ passing-on n s phase next h = rw (lt-ltb (s + 1) n h)
 pub passing-over : (n s phase next : ℕ) → n ≤ s + 1 → place next 0 ≡ passing n s phase next
 unfolding passing
 passing-over n s phase next h = rw (le-ltb (s + 1) n h)
-
--- where reclaiming goes on, or begins
-unfoldable pub reclaimAt : Place → ℕ
-reclaimAt p = cond (eqb (p .phase) reclaimNext) (p .slot) 0
 
 module _ (p : Place) where
   pub reclaim-on : p .phase ≡ reclaimNext → p .slot ≡ reclaimAt p

@@ -4,7 +4,6 @@ use mathlib.Core.Path.{_≡_, refl, sym, _∙_}
 use mathlib.Core.Bool.{Bool, true, false}
 use mathlib.Core.List.{List}
 use lib.ListN.{length}
-use lib.Dec.{ltb}
 use mir.Val.{Fits}
 use mir.Syntax.{w64}
 use borrow.Author.Tests.{lt-ltb, le-ltb}
@@ -15,7 +14,7 @@ use Rattle.reply.specs.declared.Check.{Check}
 use Rattle.reply.specs.declared.Check.the-variants.{Accepted, Refused}
 use Rattle.reply.specs.declared.Refusal.{Refusal}
 use Rattle.reply.specs.declared.Refusal.the-variants.{StillOpen, LastEpoch}
-use Rattle.reply.specs.Refusals.{refuse, both-accepted}
+use Rattle.reply.specs.Refusals.{both-accepted}
 use Rattle.image.specs.Layout.{mostSlots, mostNumber, slotsOf, clockOf}
 use Rattle.transient.specs.declared.sizes.Sizes.{Sizes}
 use Rattle.transient.specs.Layout.{placeSlot}
@@ -30,11 +29,9 @@ use Rattle.epochs.specs.declared.Sync.the-variants as sync-reply
 use Rattle.epochs.specs.Advance.{advance}
 use Rattle.epochs.specs.Sync.{anyOpen, syncCheck, syncFrom, mostLines, sync}
 use Rattle.epochs.specs.Left.{Moves, advance-moves, budget, budget-top, budget-low, budget-on, budget-tick}
+use Rattle.epochs.specs.Requires.{readyCheck}
 
 -- ---- refusals 14 and 15
-unfoldable pub readyCheck : List ℕ → List ℕ → ℕ → Check
-readyCheck wk tr t = refuse (anyOpen tr t) StillOpen (refuse (ltb (mostNumber - 2) (clockOf wk)) LastEpoch Accepted)
-
 module _ (wk tr : List ℕ) (t : ℕ) {o : Bool} (oe : o ≡ anyOpen tr t) where
   pub ready-open : o ≡ true → Refused StillOpen ≡ readyCheck wk tr t
   unfolding readyCheck

@@ -13,7 +13,7 @@ ghost use Rattle.transient.specs.Requires.{Notes, EnteredWith};
 ghost use Rattle.epochs.specs.Advance.{step, underway, advanceCheck, noted, advanceSized, advance};
 ghost use Rattle.epochs.specs.Requires.{Going};
 ghost use Rattle.epochs.specs.Moved.{replyOf, notedPlace};
-ghost use Rattle.epochs.specs.AdvanceExits.{heldOpen};
+ghost use Rattle.epochs.specs.Requires.{heldOpen};
 
 fn underway(transient: &[u32]) -> bool
     requires { ⌜ headWords ≤ length (now transient) ⌝ }

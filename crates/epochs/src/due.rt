@@ -7,7 +7,7 @@ ghost use Rattle.transient.specs.Store.{table};
 ghost use Rattle.transient.specs.Requires.{ShapedSlot};
 ghost use Rattle.epochs.specs.Advance.{due, dueFrom, waitingFrom};
 ghost use Rattle.epochs.specs.Requires.{Waiting};
-ghost use Rattle.epochs.specs.StepExits.{retiredDue, payloadDue};
+ghost use Rattle.epochs.specs.Requires.{retiredDue, payloadDue};
 
 // Was it retired two epochs ago?
 fn retired_due(r: u32, c: u32) -> bool

@@ -4,7 +4,7 @@ use transient::sizes::Sizes;
 ghost use mathlib.Core.Path.{_≡_};
 ghost use Rattle.image.specs.Line.{heldHeader, storeLine};
 ghost use Rattle.image.specs.Requires.{Slots};
-ghost use Rattle.epochs.specs.StepExits.{Freed};
+ghost use Rattle.epochs.specs.Requires.{Freed};
 
 // A slot's header, as working holds it.
 pub fn write_header(working: &[u32], persistent: &mut [u32], z: Sizes, s: usize)

@@ -4,7 +4,7 @@ ghost use mathlib.Core.Path.{_≡_};
 ghost use Rattle.transient.specs.Requires.{Notes, ThreadOf};
 ghost use Rattle.epochs.specs.Advance.{openBelow};
 ghost use Rattle.epochs.specs.Sync.{anyOpen};
-ghost use Rattle.epochs.specs.OpenExits.{isOpen, isOpenBelow};
+ghost use Rattle.epochs.specs.Requires.{isOpen, isOpenBelow};
 
 fn is_open(transient: &[u32], z: Sizes, thread: usize) -> bool
     requires { ⌜ ThreadOf (now transient) z thread ⌝ }

@@ -9,7 +9,7 @@ ghost use Rattle.transient.specs.Store.{store};
 ghost use Rattle.epochs.specs.Advance.{passing, reclaimed, headerFlushed, ticking, flushFrom, reclaimFrom, step};
 ghost use Rattle.epochs.specs.Requires.{Advancing, Going};
 ghost use Rattle.epochs.specs.Moved.{moved};
-ghost use Rattle.epochs.specs.StepExits.{reclaimAt};
+ghost use Rattle.epochs.specs.Requires.{reclaimAt};
 
 // Whether a step ticked, and the place that comes after it.
 pub struct Moved {

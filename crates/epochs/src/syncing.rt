@@ -10,7 +10,7 @@ ghost use Rattle.image.specs.Layout.{slotsOf};
 ghost use Rattle.transient.specs.Store.{store, table, sizesOf, outcome};
 ghost use Rattle.transient.specs.Requires.{Entered, EnteredWith};
 ghost use Rattle.epochs.specs.Sync.{syncCheck, syncFrom, mostLines, sync};
-ghost use Rattle.epochs.specs.SyncExits.{readyCheck};
+ghost use Rattle.epochs.specs.Requires.{readyCheck};
 
 // Refusals 14 and 15.
 fn check_ready(working: &[u32], transient: &[u32], z: Sizes) -> Check

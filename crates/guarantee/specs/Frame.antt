@@ -7,7 +7,7 @@ use mathlib.Core.List.{List, [], _∷_, _++_}
 use lib.Dec.{eqb}
 use borrow.Author.Tests.{le-leb, ne-eqb}
 use native.Mathlib.Omega.{arith}
-use Rattle.search.specs.Bools.{never, and-both}
+use Rattle.search.specs.Bools.{flag, never, and-both}
 use Rattle.image.specs.declared.header.Header.{Header}
 use Rattle.image.specs.Name.{Name}
 use Rattle.transient.specs.declared.sizes.Sizes.{Sizes}
@@ -21,7 +21,7 @@ use Rattle.crash.specs.Reference.{Jobs, Act, Value, Change}
 use Rattle.crash.specs.Slots.{Slot, State, Place, Inv}
 use Rattle.crash.specs.Steps.{Operation, Joins}
 use Rattle.guarantee.specs.Trace.{Plain, plain, rowed}
-use Rattle.guarantee.specs.View.{flag, entryOf, slotOf, view, progress, view-in, view-put}
+use Rattle.guarantee.specs.View.{entryOf, slotOf, view, progress, view-in, view-put}
 use Rattle.guarantee.specs.Good.{stateOf, Image, Opens, Good}
 use Rattle.guarantee.specs.Notes.{Joined}
 use Rattle.guarantee.specs.Images.{Wrote}

@@ -9,7 +9,7 @@ use lib.Dec.{leb}
 use borrow.Author.Tests.{lt-ltb, le-ltb, ne-eqb, leb-true}
 use native.Mathlib.Omega.{arith}
 use native.Mathlib.Decide.{decLt}
-use Rattle.search.specs.Bools.{refuted, and-left, and-right}
+use Rattle.search.specs.Bools.{flag, refuted, and-left, and-right}
 use Rattle.image.specs.declared.header.Header.{Header}
 use Rattle.image.specs.Layout.{mostNumber}
 use Rattle.transient.specs.declared.sizes.Sizes.{Sizes}
@@ -23,7 +23,7 @@ use Rattle.crash.specs.Reference.{Jobs}
 use Rattle.crash.specs.Slots.{Place, Inv}
 use Rattle.crash.specs.Steps.{atRest, moved}
 use Rattle.guarantee.specs.Trace.{Plain}
-use Rattle.guarantee.specs.View.{flag, entryOf, view, progress, view-put}
+use Rattle.guarantee.specs.View.{entryOf, view, progress, view-put}
 use Rattle.guarantee.specs.Good.{stateOf, Image, Good}
 use Rattle.guarantee.specs.Images.{Wrote}
 

@@ -6,6 +6,7 @@ use mathlib.Core.Logic.{_≢_}
 use mathlib.Core.List.{List, _∷_}
 use lib.ListN.{length}
 use native.Mathlib.Omega.{arith}
+use Rattle.search.specs.Bools.{flag}
 use Rattle.search.specs.declared.Found.{Found}
 use Rattle.search.specs.declared.Found.the-variants.{At, Nothing}
 use Rattle.reply.specs.declared.Refusal.the-variants.{Full}
@@ -26,7 +27,7 @@ use Rattle.crash.specs.Slots.{Slot, State, Inv}
 use Rattle.crash.specs.Steps.{entry, filled, retiring, after, Successor, Current, Joins}
 use Rattle.crash.specs.Over.{over-inv}
 use Rattle.guarantee.specs.Trace.{Plain, plain, rowed}
-use Rattle.guarantee.specs.View.{flag, entryOf, slotOf, view, view-in, view-put2}
+use Rattle.guarantee.specs.View.{entryOf, slotOf, view, view-in, view-put2}
 use Rattle.guarantee.specs.Good.{Good}
 use Rattle.guarantee.specs.Notes.{Joined, taken-joins}
 use Rattle.guarantee.specs.Images.{Wrote, wrote-image, filled-wrote}

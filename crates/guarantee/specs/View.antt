@@ -1,7 +1,7 @@
 -- A store seen as a table of slots, for the crash invariant: what each slot holds in both images and in the notes.
 use Prim.Native.Nat.{ℕ, _+_, _≤_, _<_}
 use mathlib.Core.Path.{_≡_}
-use mathlib.Core.Bool.{Bool, cond, _&&_}
+use mathlib.Core.Bool.{cond, _&&_}
 use mathlib.Core.Logic.{_≢_}
 use mathlib.Core.List.{List, []}
 use lib.ListN.{getD, drop}
@@ -9,6 +9,7 @@ use lib.Dec.{leb, ltb, eqb}
 use borrow.Author.Tests.{lt-ltb, le-ltb}
 use native.Mathlib.Omega.{arith}
 use native.Mathlib.Decide.{decLt}
+use Rattle.search.specs.Bools.{flag}
 use Rattle.image.specs.declared.header.Header.{Header}
 use Rattle.image.specs.Layout.{header, contents}
 use Rattle.image.specs.Name.{nameOf}
@@ -19,9 +20,6 @@ use Rattle.epochs.specs.Advance.{reclaimNext, contentsNext, headerNext, clockNe
 use Rattle.crash.specs.Table.{Put, Put2}
 use Rattle.crash.specs.Slots.{Entry, Slot, Place}
 use Rattle.crash.specs.Steps.{entry}
-
-abbrev pub flag : Bool → ℕ
-flag b = cond b 1 0
 
 abbrev pub entryOf : Header → List ℕ → Entry
 entryOf h words = entry (h .kind) (h .epoch) (h .uid) (nameOf h (getD words 0 0)) (drop 1 words)

@@ -21,7 +21,7 @@ use Rattle.transient.specs.declared.sizes.Sizes.{Sizes}
 use Rattle.transient.specs.Store.{store, table, sizesOf}
 use Rattle.transient.specs.Layout.{slotsAt, lastAt, nextUidAt, phaseAt, placeAt, headWords, openAt, retiredAt, listBase, waitingAt, threadsOf, threadsOk, notedSlots, lastTaken, nextUidOf, placeSlot, openEpoch, isWaiting, setLast, setNextUid, setOpen, setRetired, setWaiting, setPlace, emptied, blank}
 use Rattle.transient.specs.Entry.{imagesFit, uidOk, notesFit, sizesFit, openOk, opensOk, clocksFit, entryCheck}
-use Rattle.transient.specs.Requires.{ThreadRoom, Notes, Sizable, Paired, sizesAlike, Threads, Fitting, requires-laws}
+use Rattle.transient.specs.Requires.{Based, ThreadRoom, Notes, Sizable, Paired, sizesAlike, Threads, Fitting, requires-laws}
 use Rattle.transient.specs.Laws.{threads-head}
 use Rattle.transient.specs.Clearing.{clearings}
 use Rattle.transient.specs.Passed.{sizing, sizes-t}
@@ -57,10 +57,6 @@ unfolding blank
 blank-set l n uid e = rw e
 
 -- ---- writers
-pub record Based (n e b : ℕ) : Type 0 where
-  pub same : b ≡ listBase n e
-  pub top : b ≤ n
-
 pub based-even : (n e : ℕ) → e % 2 ≡ 0 → Based n e 0
 unfolding listBase
 based-even n e h = record { same = rw (eq-eqb (e % 2) 0 h); top = omega arith }

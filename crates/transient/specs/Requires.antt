@@ -9,7 +9,7 @@ use native.Mathlib.Omega.{arith}
 use Rattle.image.specs.Layout.{mostSlots, mostNumber, slotsOf, widthOf, clockOf}
 use Rattle.image.specs.Requires.{Sized, Slot, HeaderFits, slot, header-fits}
 use Rattle.transient.specs.declared.sizes.Sizes.{Sizes}
-use Rattle.transient.specs.Layout.{headWords, transientWords, lastTaken, nextUidOf, placeSlot}
+use Rattle.transient.specs.Layout.{headWords, listBase, transientWords, lastTaken, nextUidOf, placeSlot}
 
 -- ---- the notes alone
 pub record InReach (n t : ℕ) : Type 0 where
@@ -37,6 +37,11 @@ pub record NoteOf (tr : List ℕ) (z : Sizes) (s : ℕ) : Type 0 where
 pub record ThreadOf (tr : List ℕ) (z : Sizes) (thread : ℕ) : Type 0 where
   pub notes : Notes tr z
   pub within : thread < z .t
+
+-- where the flags of an epoch's list begin, behind those of the even epochs
+pub record Based (n e b : ℕ) : Type 0 where
+  pub same : b ≡ listBase n e
+  pub top : b ≤ n
 
 -- a head to read, and the sizes with it
 pub record Sizable (wk tr : List ℕ) : Type 0 where

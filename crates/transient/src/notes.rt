@@ -6,8 +6,7 @@ ghost use lib.ListN.{length, replicate};
 ghost use Rattle.image.specs.Layout.{mostSlots};
 ghost use Rattle.image.specs.Line.{stored};
 ghost use Rattle.transient.specs.Layout.{headWords, transientWords, threadsOf, threadsOk, blank, notedSlots, lastTaken, nextUidOf, placePhase, placeSlot, openEpoch, retiredIn, isWaiting, setLast, setNextUid, setOpen, setRetired, setWaiting, setPlace, emptied};
-ghost use Rattle.transient.specs.Requires.{InReach, ThreadRoom, Blanking, Notes, NoteOf, ThreadOf};
-ghost use Rattle.transient.specs.Exits.{Based};
+ghost use Rattle.transient.specs.Requires.{Based, InReach, ThreadRoom, Blanking, Notes, NoteOf, ThreadOf};
 
 // Where the words of the head stand, and how many these are; then come the threads, then the slots.
 const SLOTS: usize = 0;

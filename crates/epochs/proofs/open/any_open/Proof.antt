@@ -1,7 +1,8 @@
 -- `any_open`: a search (`Sought`).
 use borrow.Author.Needs.{needs}
 use Rattle.search.specs.First.{Sought}
-use Rattle.epochs.specs.OpenExits.{isOpen, laws}
+use Rattle.epochs.specs.OpenExits.{laws}
+use Rattle.epochs.specs.Requires.{isOpen}
 use Prim.Native.Nat.{_-_}
 use Rattle.epochs.proofs.open.any_open.Statement.{statement}
 use Rattle.epochs.proofs.open.any_open.Tie as tie

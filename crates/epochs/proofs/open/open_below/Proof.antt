@@ -1,7 +1,8 @@
 -- `open_below`: a search (`Sought`).
 use borrow.Author.Needs.{needs}
 use Rattle.search.specs.First.{Sought}
-use Rattle.epochs.specs.OpenExits.{isOpenBelow, laws}
+use Rattle.epochs.specs.OpenExits.{laws}
+use Rattle.epochs.specs.Requires.{isOpenBelow}
 use Prim.Native.Nat.{_-_}
 use Rattle.epochs.proofs.open.open_below.Statement.{statement}
 use Rattle.epochs.proofs.open.open_below.Tie as tie
