@@ -1,11 +1,10 @@
 -- `look_up`: one walk up (`Ascending`).
 use borrow.Author.Needs.{needs}
-use Rattle.table.specs.Exits.{finds}
+use Rattle.table.specs.Exits.{finds, Ascending}
 use Prim.Native.Nat.{_-_}
 use Rattle.image.specs.Name.{jobName}
 use Rattle.transient.specs.Store.{table}
 use Rattle.table.specs.Find.{newerAt, liveAt}
-use Rattle.table.specs.Exits.{Ascending}
 use Rattle.table.proofs.find.look_up.Statement.{statement}
 use Rattle.table.proofs.find.look_up.Tie as tie
 

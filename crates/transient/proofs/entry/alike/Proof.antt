@@ -1,7 +1,6 @@
 -- `alike`: each way out is a law.
 use borrow.Author.Needs.{needs}
-use Rattle.transient.specs.Exits.{laws}
-use Rattle.transient.specs.Exits.{entries}
+use Rattle.transient.specs.Exits.{laws, entries}
 use Rattle.transient.proofs.entry.alike.Statement.{statement}
 use Rattle.transient.proofs.entry.alike.Tie as tie
 

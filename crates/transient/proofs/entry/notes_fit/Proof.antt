@@ -1,8 +1,6 @@
 -- `notes_fit`: each way out is a law.
 use borrow.Author.Needs.{needs}
 use Rattle.transient.specs.Exits.{laws, entries}
-use Rattle.transient.specs.Exits.{laws}
-use Rattle.transient.specs.Exits.{entries}
 use Rattle.transient.proofs.entry.notes_fit.Statement.{statement}
 use Rattle.transient.proofs.entry.notes_fit.Tie as tie
 

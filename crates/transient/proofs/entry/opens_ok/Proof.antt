@@ -1,11 +1,10 @@
 -- `opens_ok`: the open epochs passed are right (`Held`).
 use borrow.Author.Needs.{needs}
-use Rattle.transient.specs.Exits.{laws}
+use Rattle.transient.specs.Exits.{laws, entries}
 use Prim.Native.Nat.{_-_}
 use Rattle.search.specs.Some.{Held}
 use Rattle.transient.specs.Layout.{openEpoch}
 use Rattle.transient.specs.Entry.{openOk}
-use Rattle.transient.specs.Exits.{entries}
 use Rattle.transient.proofs.entry.opens_ok.Statement.{statement}
 use Rattle.transient.proofs.entry.opens_ok.Tie as tie
 
