@@ -28,12 +28,6 @@ proper c h = blankHeader h || filledHeader c h
 unfoldable pub nameless : List ℕ → ℕ → ℕ → ℕ → Bool
 nameless l n w s = survivor l n s && unnamed (nameAt l n w s)
 
-unfoldable pub allProper : List ℕ → ℕ → Bool
-allProper l n = every (λ s. proper (clockOf l) (header l s)) n
-
-unfoldable pub someNameless : List ℕ → ℕ → ℕ → Bool
-someNameless l n w = anyOf (nameless l n w) n
-
 -- a kept header g with the uid and epoch of h
 unfoldable pub sameVersion : ℕ → Header → Header → Bool
 sameVersion c h g = kept c g && (eqb (g .uid) (h .uid) && eqb (g .epoch) (h .epoch))
@@ -46,9 +40,6 @@ versionIn c h l t = sameVersion c h (header l t)
 unfoldable pub versionBelow : ℕ → (ℕ → Header) → ℕ → Bool
 versionBelow c hs s = kept c (hs s) && anyOf (λ t. sameVersion c (hs s) (hs t)) s
 
-unfoldable pub versionTwice : List ℕ → ℕ → Bool
-versionTwice l n = anyOf (versionBelow (clockOf l) (header l)) n
-
 -- a survivor of that name
 unfoldable pub survivesAs : List ℕ → ℕ → ℕ → Name → ℕ → Bool
 survivesAs l n w name t = survivor l n t && sameName (nameAt l n w t) name
@@ -56,9 +47,6 @@ survivesAs l n w name t = survivor l n t && sameName (nameAt l n w t) name
 -- "two survivors equal in key": slot s survives, and so does some slot below it with the same name
 unfoldable pub nameBelow : List ℕ → ℕ → ℕ → ℕ → Bool
 nameBelow l n w s = survivor l n s && anyOf (survivesAs l n w (nameAt l n w s)) s
-
-unfoldable pub nameTwice : List ℕ → ℕ → ℕ → Bool
-nameTwice l n w = anyOf (nameBelow l n w) n
 
 -- 1: "N, W .. outside its range; image length wrong"; 2: "clock outside 2 to 4,000,000,000"
 unfoldable pub headCheck : List ℕ → Check
@@ -68,8 +56,8 @@ headCheck l = refuse (not (shapeOk l)) BadSizes (refuse (not (clockOk (clockOf l
 -- 4: "two kept slots equal in uid and label, or two survivors equal in key"
 unfoldable pub slotsCheck : List ℕ → ℕ → ℕ → Check
 slotsCheck l n w =
-    refuse (not (allProper l n) || someNameless l n w) BadSlot
-    (refuse (versionTwice l n || nameTwice l n w) Duplicate Accepted)
+    refuse (not (every (λ s. proper (clockOf l) (header l s)) n) || anyOf (nameless l n w) n) BadSlot
+    (refuse (anyOf (versionBelow (clockOf l) (header l)) n || anyOf (nameBelow l n w) n) Duplicate Accepted)
 
 unfoldable pub imageCheck : List ℕ → Check
 imageCheck l = andThen (headCheck l) (slotsCheck l (slotsOf l) (widthOf l))

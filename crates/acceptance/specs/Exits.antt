@@ -27,9 +27,9 @@ use Rattle.chains.specs.Chased.{Chased, chased-under, chased-slot, walks}
 use Rattle.survival.specs.Survivors.{kept, survivor, survivorCount}
 use Rattle.survival.specs.Requires.{SlotMarked, uids, header-in, slot-marked, uids-small, uids-large, marks}
 use Rattle.survival.specs.Laws.{flag-is, uid-at}
-use Rattle.acceptance.specs.Accept.{blankHeader, filledHeader, proper, allProper, nameless, someNameless, sameVersion, versionIn, versionBelow, versionTwice, survivesAs, nameBelow, nameTwice, headCheck, slotsCheck, imageCheck}
+use Rattle.acceptance.specs.Accept.{blankHeader, filledHeader, proper, nameless, sameVersion, versionIn, versionBelow, survivesAs, nameBelow, headCheck, slotsCheck, imageCheck}
 use Rattle.acceptance.specs.Questions.{clockAnswer, survivorsAnswer, survivorsPast}
-use Rattle.acceptance.specs.Requires.{UidChains, UidsAt, VersionOf, KeysUnlinked, KeysAt, KeyOf, uid-chains, uids-at, version-of, keys-small, keys-large, keys-unlinked, key-chains, keys-at, key-of}
+use Rattle.acceptance.specs.Requires.{UidChains, UidsAt, VersionOf, KeysUnlinked, KeysAt, KeyOf, uid-chains, uids-at, version-of, keys-small, keys-large, keys-unlinked, key-chains, keys-at, key-of, allProper, someNameless, versionTwice, nameTwice}
 use Rattle.acceptance.specs.Laws.{head-sized, image-sized}
 
 -- ---- headers that are proper
@@ -167,26 +167,26 @@ shape-room l e t = let z = shaped l (sym e ∙ t) in omega arith
 
 module _ (l : List ℕ) (n w : ℕ) {p : Bool} (pr : p ≡ allProper l n) where
   pub slots-improper : p ≡ false → Refused BadSlot ≡ slotsCheck l n w
-  unfolding slotsCheck
+  unfolding slotsCheck allProper someNameless versionTwice nameTwice
   slots-improper e = rw (← pr, e)
 
   module _ {k : Bool} (pt : p ≡ true) (nm : k ≡ someNameless l n w) where
     pub slots-nameless : k ≡ true → Refused BadSlot ≡ slotsCheck l n w
-    unfolding slotsCheck
+    unfolding slotsCheck allProper someNameless versionTwice nameTwice
     slots-nameless e = rw (← pr, pt, ← nm, e)
 
     module _ {v : Bool} (kf : k ≡ false) (vt : v ≡ versionTwice l n) where
       pub slots-version : v ≡ true → Refused Duplicate ≡ slotsCheck l n w
-      unfolding slotsCheck
+      unfolding slotsCheck allProper someNameless versionTwice nameTwice
       slots-version e = rw (← pr, pt, ← nm, kf, ← vt, e)
 
       module _ {y : Bool} (vf : v ≡ false) (yt : y ≡ nameTwice l n w) where
         pub slots-named : y ≡ true → Refused Duplicate ≡ slotsCheck l n w
-        unfolding slotsCheck
+        unfolding slotsCheck allProper someNameless versionTwice nameTwice
         slots-named e = rw (← pr, pt, ← nm, kf, ← vt, vf, ← yt, e)
 
         pub slots-fine : y ≡ false → Accepted ≡ slotsCheck l n w
-        unfolding slotsCheck
+        unfolding slotsCheck allProper someNameless versionTwice nameTwice
         slots-fine e = rw (← pr, pt, ← nm, kf, ← vt, vf, ← yt, e)
 
 module _ (l : List ℕ) {k : Check} (c : k ≡ headCheck l) where

@@ -1,4 +1,4 @@
--- What functions inside require: the slots chained by their uids and by their keys, and a buffer for an image's bytes.
+-- What contracts inside are about: the answers of the walks; the slots chained by their uids and by their keys, and a buffer for an image's bytes.
 use Prim.Native.Nat.{ℕ, _*_, _/_, _%_, _≤_, _<_}
 use mathlib.Core.Path.{_≡_, sym, _∙_}
 use mathlib.Core.Bool.{Bool, true}
@@ -9,14 +9,29 @@ use borrow.Author.Tests.{leb-true, eqb-true}
 use native.Mathlib.Omega.{arith}
 use native.Mathlib.Nat.{div-add-mod'}
 use Rattle.search.specs.Bools.{and-left, and-right}
+use Rattle.search.specs.Some.{anyOf, every}
 use Rattle.image.specs.declared.header.Header.{Header}
-use Rattle.image.specs.Layout.{header, keyAt}
+use Rattle.image.specs.Layout.{header, keyAt, clockOf}
 use Rattle.image.specs.Requires.{Sized}
 use Rattle.image.specs.Bytes.{Decodes}
 use Rattle.chains.specs.Chains.{Linked, Under}
 use Rattle.chains.specs.Requires.{Room, room-small, room-large}
 use Rattle.survival.specs.Requires.{Headers, AllMarked, uids, UidsLinked}
+use Rattle.acceptance.specs.Accept.{proper, nameless, versionBelow, nameBelow}
 use Rattle.acceptance.specs.Questions.{bytesOk}
+
+-- ---- what the walks of `slotsCheck` answer
+unfoldable pub allProper : List ℕ → ℕ → Bool
+allProper l n = every (λ s. proper (clockOf l) (header l s)) n
+
+unfoldable pub someNameless : List ℕ → ℕ → ℕ → Bool
+someNameless l n w = anyOf (nameless l n w) n
+
+unfoldable pub versionTwice : List ℕ → ℕ → Bool
+versionTwice l n = anyOf (versionBelow (clockOf l) (header l)) n
+
+unfoldable pub nameTwice : List ℕ → ℕ → ℕ → Bool
+nameTwice l n w = anyOf (nameBelow l n w) n
 
 -- ---- chains of uids: a slot of them, and its header
 pub record UidChains (l : List ℕ) (n : ℕ) (below : List ℕ) : Type 0 where

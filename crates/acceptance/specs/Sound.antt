@@ -15,7 +15,8 @@ use Rattle.reply.specs.Refusals.{refuse, not-refused, both-accepted}
 use Rattle.image.specs.declared.header.Header.{Header}
 use Rattle.image.specs.Layout.{mostSlots, mostNumber, filledKind, header, slotsOf, widthOf, clockOf, sizesOk, shapeOk, clockOk}
 use Rattle.image.specs.Requires.{Sized}
-use Rattle.acceptance.specs.Accept.{blankHeader, filledHeader, proper, allProper, nameless, someNameless, versionBelow, versionTwice, nameBelow, nameTwice, headCheck, slotsCheck, imageCheck}
+use Rattle.acceptance.specs.Accept.{blankHeader, filledHeader, proper, nameless, versionBelow, nameBelow, headCheck, slotsCheck, imageCheck}
+use Rattle.acceptance.specs.Requires.{allProper, someNameless, versionTwice, nameTwice}
 use Rattle.acceptance.specs.Laws.{image-sized}
 
 pub record Sound (l : List ℕ) (n w : ℕ) : Type 0 where

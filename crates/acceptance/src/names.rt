@@ -5,8 +5,8 @@ ghost use Rattle.image.specs.Layout.{keyAt};
 ghost use Rattle.image.specs.Name.{jobName};
 ghost use Rattle.chains.specs.Chains.{Linked};
 ghost use Rattle.survival.specs.Requires.{SlotMarked, AllMarked};
-ghost use Rattle.acceptance.specs.Accept.{survivesAs, nameBelow, nameTwice};
-ghost use Rattle.acceptance.specs.Requires.{KeysUnlinked, KeysRoom, KeyChains, KeysAt, KeyOf};
+ghost use Rattle.acceptance.specs.Accept.{survivesAs, nameBelow};
+ghost use Rattle.acceptance.specs.Requires.{KeysUnlinked, KeysRoom, KeyChains, KeysAt, KeyOf, nameTwice};
 
 // The slots by their keys, each linked to the next one below of the same spot.
 fn link_keys(img: &[u32], heads: &mut [u32], below: &mut [u32], n: usize, w: usize)
