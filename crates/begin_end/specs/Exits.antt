@@ -20,7 +20,8 @@ use Rattle.jobs.specs.declared.way.Way.{Way}
 use Rattle.jobs.specs.declared.way.Way.the-variants.{Open, Declined}
 use Rattle.jobs.specs.Way.{wayIn}
 use Rattle.jobs.specs.Laws.{way-within, way-declined, way-open}
-use Rattle.begin_end.specs.Operation.{beginSized, endSized, begin, end}
+use Rattle.begin_end.specs.Operation.{begin, end}
+use Rattle.begin_end.specs.Stages.{beginSized, endSized}
 
 module _ (z : Sizes) (wk tr : List ℕ) (thread : ℕ) where
   pub begin-thread : z .t ≤ thread → refused NoThread (table wk tr) ≡ beginSized thread z (table wk tr)
@@ -48,20 +49,20 @@ module _ (z : Sizes) (wk tr : List ℕ) (thread : ℕ) where
 -- 1 and 2
 module _ (wk l tr : List ℕ) (thread : ℕ) {k : Check} (c : k ≡ entryCheck (store wk l tr)) where
   pub begin-refused : {r : Refusal} → k ≡ Refused r → outcome (Refused r) wk l tr ≡ begin (store wk l tr) thread
-  unfolding begin
+  unfolding begin beginSized
   begin-refused a = on-declined wk l tr c (beginSized thread) a
 
   pub end-refused : {r : Refusal} → k ≡ Refused r → outcome (Refused r) wk l tr ≡ end (store wk l tr) thread
-  unfolding end
+  unfolding end endSized
   end-refused a = on-declined wk l tr c (endSized thread) a
 
   module _ {z : Sizes} {th : ℕ} {q : Check} {tr′ : List ℕ} (a : k ≡ Accepted) (e : z ≡ sizesOf (table wk tr)) (i : th ≡ thread) where
     pub begin-enters : changed q wk tr′ ≡ beginSized th z (table wk tr) → outcome q wk l tr′ ≡ begin (store wk l tr) thread
-    unfolding begin
+    unfolding begin beginSized
     begin-enters h = on-passed wk l tr c (beginSized thread) a (rw (i, e) at h)
 
     pub end-enters : changed q wk tr′ ≡ endSized th z (table wk tr) → outcome q wk l tr′ ≡ end (store wk l tr) thread
-    unfolding end
+    unfolding end endSized
     end-enters h = on-passed wk l tr c (endSized thread) a (rw (i, e) at h)
 
 pub ruleset laws = (thread-of, entered-notes, entered-front, way-within, begin-thread, begin-open, begin-done, end-declined, end-done, begin-refused, begin-enters, end-refused, end-enters, passing)

@@ -3,7 +3,8 @@ use Prim.Native.Nat.{ℕ}
 use Rattle.transient.specs.declared.sizes.Sizes.{Sizes}
 use Rattle.transient.specs.Store.{Store, Table}
 use Rattle.jobs.specs.Keeps.{Keeps, KeepsInside, shapes, call-keeps}
-use Rattle.begin_end.specs.Operation.{beginSized, endSized, begin, end}
+use Rattle.begin_end.specs.Operation.{begin, end}
+use Rattle.begin_end.specs.Stages.{beginSized, endSized}
 
 begun-keeps : (thread : ℕ) (z : Sizes) (tb : Table) → KeepsInside tb (beginSized thread z tb)
 unfolding beginSized
@@ -15,9 +16,9 @@ ended-keeps thread z tb = search shapes
 
 module _ (st : Store) (thread : ℕ) where
   pub begin-keeps : Keeps st (begin st thread)
-  unfolding begin
+  unfolding begin beginSized
   begin-keeps = call-keeps st (beginSized thread) (begun-keeps thread)
 
   pub end-keeps : Keeps st (end st thread)
-  unfolding end
+  unfolding end endSized
   end-keeps = call-keeps st (endSized thread) (ended-keeps thread)

@@ -6,25 +6,19 @@ use Rattle.reply.specs.declared.Check.{Check}
 use Rattle.reply.specs.declared.Check.the-variants.{Accepted}
 use Rattle.reply.specs.declared.Refusal.the-variants.{NoThread, AlreadyOpen}
 use Rattle.image.specs.Layout.{clockOf}
-use Rattle.transient.specs.declared.sizes.Sizes.{Sizes}
 use Rattle.transient.specs.Layout.{openEpoch, setOpen}
-use Rattle.transient.specs.Store.{Store, Table, Outcome}
-use Rattle.transient.specs.Calls.{Changed, changed, declines, onStore}
+use Rattle.transient.specs.Store.{Store, Outcome}
+use Rattle.transient.specs.Calls.{changed, declines, onStore}
 use Rattle.jobs.specs.Way.{wayIn, byWay}
 
 -- 5: "thread number not below T"; 6: "operation already open"
-unfoldable pub beginSized : ℕ → Sizes → Table → Changed
-beginSized thread z tb =
-    declines (leb (z .t) thread) NoThread tb
+unfoldable pub begin : Store → ℕ → Outcome Check
+begin st thread =
+    onStore st (λ z tb. declines (leb (z .t) thread) NoThread tb
     (declines (not (eqb (openEpoch (tb .transient) thread) 0)) AlreadyOpen tb
-    (changed Accepted (tb .working) (setOpen (tb .transient) thread (clockOf (tb .working)))))
+    (changed Accepted (tb .working) (setOpen (tb .transient) thread (clockOf (tb .working))))))
 
 -- 5; 7: "no operation open"
-unfoldable pub endSized : ℕ → Sizes → Table → Changed
-endSized thread z tb = byWay (wayIn z (tb .transient) thread false) tb (λ e. changed Accepted (tb .working) (setOpen (tb .transient) thread 0))
-
-unfoldable pub begin : Store → ℕ → Outcome Check
-begin st thread = onStore st (beginSized thread)
-
 unfoldable pub end : Store → ℕ → Outcome Check
-end st thread = onStore st (endSized thread)
+end st thread =
+    onStore st (λ z tb. byWay (wayIn z (tb .transient) thread false) tb (λ e. changed Accepted (tb .working) (setOpen (tb .transient) thread 0)))

@@ -7,7 +7,8 @@ ghost use mathlib.Core.Path.{_≡_};
 ghost use Rattle.transient.specs.Store.{store, table, outcome};
 ghost use Rattle.transient.specs.Calls.{changed};
 ghost use Rattle.transient.specs.Requires.{Entered};
-ghost use Rattle.begin_end.specs.Operation.{beginSized, endSized, begin, end};
+ghost use Rattle.begin_end.specs.Operation.{begin, end};
+ghost use Rattle.begin_end.specs.Stages.{beginSized, endSized};
 
 fn begin_sized(working: &[u32], transient: &mut [u32], z: Sizes, thread: usize) -> Check
     requires { ⌜ Entered (now working) (now transient) z ⌝ }

@@ -22,7 +22,8 @@ use Rattle.table.specs.declared.find.Lookup.the-variants as look
 use Rattle.table.specs.Find.{lookup, room, freeAt}
 use Rattle.jobs.specs.Job.{Job, jobWords, badJob}
 use Rattle.jobs.specs.Laws.{job-named, job-words}
-use Rattle.job_new.specs.New.{newAt, newIn, newAbsent, newLooked, newOpen, newSized, newJob}
+use Rattle.job_new.specs.New.{newAt, newIn, newAbsent, newJob}
+use Rattle.job_new.specs.Stages.{newLooked, newOpen, newSized}
 use Rattle.crash.specs.Reference as ref
 use Rattle.crash.specs.Reference.{Jobs}
 use Rattle.crash.specs.New.{new-inv}
@@ -86,7 +87,7 @@ module _ {sz : Sizes} {start : Jobs} {wk l tr : List ℕ} {p : Plain} (thread : 
 -- 5, 7 and 8
 pub new-good : {sz : Sizes} {start : Jobs} {st : Store} {p : Plain} (thread : ℕ) (j : Job) → Good sz start st p
     → Good sz start (newJob st thread j .store) (toldChange ref.made thread (jobName (j .key)) (j .value) (newJob st thread j .reply) p)
-unfolding newJob newSized
+unfolding newJob newSized newOpen
 new-good {sz} {start} {st} {p} thread j g =
     fine-call (newSized thread j) g
     (λ a. fine-way g (badJob sz j) _

@@ -16,7 +16,8 @@ use Rattle.transient.specs.Store.{Store, store, tableOf}
 use Rattle.transient.specs.Calls.{Changed}
 use Rattle.transient.specs.Requires.{notes-after}
 use Rattle.transient.specs.Laws.{open-same, open-other, open-slots, open-phase, open-slot, open-uid, open-long}
-use Rattle.begin_end.specs.Operation.{beginSized, endSized, begin, end}
+use Rattle.begin_end.specs.Operation.{begin, end}
+use Rattle.begin_end.specs.Stages.{beginSized, endSized}
 use Rattle.epochs.specs.Advance.{underway}
 use Rattle.crash.specs.Reference.{Jobs}
 use Rattle.guarantee.specs.Trace.{Plain, plain, opening, toldBegin, toldEnd}
@@ -101,13 +102,13 @@ module _ {sz : Sizes} {start : Jobs} {st : Store} {p : Plain} (thread : ℕ) (g 
       bound h d m = ⊎-elim (λ q. omega (arith, q, g .opens .same thread h, g .opens .high thread h)) (λ q. g .past .ended-hi d q) (List·Memᴰ·cases-cons m)
 
   pub begin-good : Good sz start (begin st thread .store) (toldBegin thread (begin st thread .reply) p)
-  unfolding begin
+  unfolding begin beginSized
   begin-good =
       call-way (λ a. Good sz start (a .store) (toldBegin thread (a .reply) p)) st (beginSized thread) (λ r. g)
       (λ e. rw (sizes-is g) begun-fine)
 
   pub end-good : Good sz start (end st thread .store) (toldEnd thread (end st thread .reply) p)
-  unfolding end
+  unfolding end endSized
   end-good =
       call-way (λ a. Good sz start (a .store) (toldEnd thread (a .reply) p)) st (endSized thread) (λ r. g)
       (λ e. rw (sizes-is g) ended-fine)

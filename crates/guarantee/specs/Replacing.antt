@@ -21,8 +21,10 @@ use Rattle.table.specs.declared.find.Lookup.the-variants as look
 use Rattle.table.specs.Find.{newer, lookup}
 use Rattle.jobs.specs.Job.{Job, job, badJob}
 use Rattle.jobs.specs.Laws.{job-words}
-use Rattle.job_set.specs.Set.{rewritten, updated, setAt, setLooked, setOpened, setSized, setJob}
-use Rattle.job_delete.specs.Delete.{freedAt, turned, covered, deleteAt, deleteLooked, deleteOpen, deleteSized, deleteJob}
+use Rattle.job_set.specs.Set.{rewritten, updated, setAt, setJob}
+use Rattle.job_set.specs.Stages.{setLooked, setOpened, setSized}
+use Rattle.job_delete.specs.Delete.{freedAt, turned, covered, deleteAt, deleteJob}
+use Rattle.job_delete.specs.Stages.{deleteLooked, deleteOpen, deleteSized}
 use Rattle.crash.specs.Table.{Put}
 use Rattle.crash.specs.Reference as ref
 use Rattle.crash.specs.Reference.{Jobs, Value}
@@ -177,14 +179,14 @@ module _ {sz : Sizes} {start : Jobs} {wk l tr : List ℕ} {p : Plain} (thread : 
 -- ---- the calls
 module _ {sz : Sizes} {start : Jobs} {st : Store} {p : Plain} (thread : ℕ) (g : Good sz start st p) where
   pub set-good : (j : Job) → Good sz start (setJob st thread j .store) (toldChange ref.altered thread (jobName (j .key)) (j .value) (setJob st thread j .reply) p)
-  unfolding setJob setSized
+  unfolding setJob setSized setOpened
   set-good j =
       fine-call (setSized thread j) g
       (λ a. fine-way g (badJob sz j) _
       (λ h b c. set-opened-fine thread g h b (last-below g a) j (omega (arith, job-words sz j c, g .working .sized .sizes .width-lo))))
 
   pub delete-good : (key : ℕ) → Good sz start (deleteJob st thread key .store) (toldChange ref.dropped thread (jobName key) [] (deleteJob st thread key .reply) p)
-  unfolding deleteJob deleteSized
+  unfolding deleteJob deleteSized deleteOpen
   delete-good key =
       fine-call (deleteSized thread key) g
       (λ a. fine-way g (eqb key 0) _ (λ h b c. delete-open-fine thread g h b (last-below g a) key))

@@ -9,10 +9,14 @@ use Rattle.image.specs.Line.{headerLine, contentsLine, clockLine, storeLine}
 use Rattle.transient.specs.declared.sizes.Sizes.{Sizes}
 use Rattle.transient.specs.Store.{Store, Table}
 use Rattle.transient.specs.Calls.{Changed, onStore}
-use Rattle.begin_end.specs.Operation.{beginSized, endSized, begin, end}
-use Rattle.job_new.specs.New.{newSized, newJob}
-use Rattle.job_set.specs.Set.{setSized, setJob}
-use Rattle.job_delete.specs.Delete.{deleteSized, deleteJob}
+use Rattle.begin_end.specs.Operation.{begin, end}
+use Rattle.begin_end.specs.Stages.{beginSized, endSized}
+use Rattle.job_new.specs.New.{newJob}
+use Rattle.job_new.specs.Stages.{newOpen, newSized}
+use Rattle.job_set.specs.Set.{setJob}
+use Rattle.job_set.specs.Stages.{setOpened, setSized}
+use Rattle.job_delete.specs.Delete.{deleteJob}
+use Rattle.job_delete.specs.Stages.{deleteOpen, deleteSized}
 use Rattle.epochs.specs.declared.Place.{Place}
 use Rattle.epochs.specs.declared.Advance.{Advance}
 use Rattle.epochs.specs.declared.Advance.the-variants.{WentOn, Ticked, Declined}
@@ -104,7 +108,7 @@ syncing-chained (suc more) (suc ticks) k lines m =
     (going-chained (advance (x .store) .reply) on tick (afterAdvance x) (syncing-chained more (suc ticks) (suc k) lines) (syncing-chained more ticks (suc k) lines)))
 
 through-chained : (c : Call) (m : Moment) → Chained m (through c m)
-unfolding through afterAdvance afterLine begin end newJob setJob deleteJob
+unfolding through afterAdvance afterLine begin beginSized end endSized newJob newSized newOpen setJob setSized setOpened deleteJob deleteSized deleteOpen
 through-chained (begins thread) m = one-step (job-none (m .store) (beginSized thread))
 through-chained (ends thread) m = one-step (job-none (m .store) (endSized thread))
 through-chained (news thread j) m = one-step (job-none (m .store) (newSized thread j))

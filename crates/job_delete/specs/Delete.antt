@@ -7,20 +7,17 @@ use lib.ListN.{replicate}
 use lib.Dec.{eqb}
 use Rattle.reply.specs.declared.Check.{Check}
 use Rattle.reply.specs.declared.Check.the-variants.{Accepted}
-use Rattle.reply.specs.declared.Refusal.the-variants.{Newer, NoJob}
+use Rattle.reply.specs.declared.Refusal.the-variants.{NoJob}
 use Rattle.image.specs.Layout.{header, freeHeader, antiHeader}
 use Rattle.image.specs.Line.{headerLine, storeLine}
-use Rattle.image.specs.Name.{jobName}
 use Rattle.transient.specs.declared.sizes.Sizes.{Sizes}
 use Rattle.transient.specs.Layout.{setWaiting}
 use Rattle.transient.specs.Store.{Store, Table, Outcome}
-use Rattle.transient.specs.Calls.{Changed, changed, refused, onStore}
-use Rattle.table.specs.Find.{lookup, room}
+use Rattle.transient.specs.Calls.{Changed, changed, refused}
+use Rattle.table.specs.Find.{room}
 use Rattle.table.specs.Fill.{joined}
-use Rattle.table.specs.declared.find.Lookup.{Lookup}
-use Rattle.table.specs.declared.find.Lookup.the-variants.{Later, Live, Absent}
 use Rattle.jobs.specs.Job.{superseded}
-use Rattle.jobs.specs.Way.{wayIn, byWay}
+use Rattle.jobs.specs.Way.{onJob}
 
 -- "Every slot that these calls change .. joins the waiting list of e, the slot freed at once included."
 unfoldable pub freedAt : Sizes → Table → ℕ → ℕ → Changed
@@ -40,17 +37,6 @@ deleteAt z tb e s key =
     (cond (eqb (header (tb .working) s .kind) 1) (freedAt z tb e s) (turned z tb e s))
     (covered z tb e s key)
 
--- 9; 10
-abbrev pub deleteLooked : Lookup → Sizes → Table → ℕ → ℕ → Changed
-deleteLooked Later z tb e key = refused Newer tb
-deleteLooked (Live s) z tb e key = deleteAt z tb e s key
-deleteLooked Absent z tb e key = refused NoJob tb
-
-unfoldable pub deleteOpen : Sizes → Table → ℕ → ℕ → Changed
-deleteOpen z tb key e = deleteLooked (lookup z tb (jobName key) e) z tb e key
-
-unfoldable pub deleteSized : ℕ → ℕ → Sizes → Table → Changed
-deleteSized thread key z tb = byWay (wayIn z (tb .transient) thread (eqb key 0)) tb (deleteOpen z tb key)
-
+-- 10
 unfoldable pub deleteJob : Store → ℕ → ℕ → Outcome Check
-deleteJob st thread key = onStore st (deleteSized thread key)
+deleteJob st thread key = onJob st thread key (λ z. eqb key 0) (λ z tb e s. deleteAt z tb e s key) (λ z tb e. refused NoJob tb)

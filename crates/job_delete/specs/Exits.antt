@@ -31,7 +31,8 @@ use Rattle.jobs.specs.declared.way.Way.the-variants.{Open, Declined}
 use Rattle.jobs.specs.Way.{wayIn}
 use Rattle.jobs.specs.Requires.{reaching}
 use Rattle.jobs.specs.Laws.{way-declined, way-open}
-use Rattle.job_delete.specs.Delete.{freedAt, turned, covered, deleteAt, deleteOpen, deleteSized, deleteJob}
+use Rattle.job_delete.specs.Delete.{freedAt, turned, covered, deleteAt, deleteJob}
+use Rattle.job_delete.specs.Stages.{deleteOpen, deleteSized}
 
 module _ (z : Sizes) (tb : Table) (e s : ℕ) where
   pub free-done : {h : Header} {wk tr : List ℕ} → h ≡ freeHeader → wk ≡ storeLine (tb .working) (headerLine s h) → tr ≡ joined z (tb .transient) e s → changed Accepted wk tr ≡ freedAt z tb e s
@@ -95,12 +96,12 @@ module _ (z : Sizes) (tb : Table) (thread key : ℕ) {k : Way} (way : k ≡ wayI
 -- 1 and 2
 module _ (wk l tr : List ℕ) (thread key : ℕ) {k : Check} (c : k ≡ entryCheck (store wk l tr)) where
   pub delete-refused : {r : Refusal} → k ≡ Refused r → outcome (Refused r) wk l tr ≡ deleteJob (store wk l tr) thread key
-  unfolding deleteJob
+  unfolding deleteJob deleteSized deleteOpen
   delete-refused a = on-declined wk l tr c (deleteSized thread key) a
 
   pub delete-enters : {z : Sizes} {th : ℕ} {q : Check} {wk′ tr′ : List ℕ} → k ≡ Accepted → z ≡ sizesOf (table wk tr) → th ≡ thread
       → changed q wk′ tr′ ≡ deleteSized th key z (table wk tr) → outcome q wk′ l tr′ ≡ deleteJob (store wk l tr) thread key
-  unfolding deleteJob
+  unfolding deleteJob deleteSized deleteOpen
   delete-enters a e i h = on-passed wk l tr c (deleteSized thread key) a (rw (i, e) at h)
 
 pub ruleset laws = (entered-shaped, entered-notes, reaching, free-done, turn-done, cover-full, cover-done, delete-free, delete-turn, delete-cover, delete-later, delete-live, delete-absent, delete-declined, delete-goes, delete-refused, delete-enters, passing)

@@ -6,7 +6,8 @@ use Rattle.transient.specs.Store.{Store, Table}
 use Rattle.table.specs.declared.find.Lookup.{Lookup}
 use Rattle.table.specs.declared.find.Lookup.the-variants.{Later, Live, Absent}
 use Rattle.jobs.specs.Keeps.{Keeps, KeepsInside, refused-keeps, shapes, call-keeps}
-use Rattle.job_delete.specs.Delete.{freedAt, turned, covered, deleteAt, deleteLooked, deleteOpen, deleteSized, deleteJob}
+use Rattle.job_delete.specs.Delete.{freedAt, turned, covered, deleteAt, deleteJob}
+use Rattle.job_delete.specs.Stages.{deleteLooked, deleteOpen, deleteSized}
 
 looked-keeps : (z : Sizes) (tb : Table) (e key : ℕ) (k : Lookup) → KeepsInside tb (deleteLooked k z tb e key)
 unfolding deleteAt freedAt turned covered
@@ -19,5 +20,5 @@ unfolding deleteSized deleteOpen
 sized-keeps thread key z tb = search (shapes, looked-keeps)
 
 pub delete-keeps : (st : Store) (thread key : ℕ) → Keeps st (deleteJob st thread key)
-unfolding deleteJob
+unfolding deleteJob deleteSized deleteOpen
 delete-keeps st thread key = call-keeps st (deleteSized thread key) (sized-keeps thread key)

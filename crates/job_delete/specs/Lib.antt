@@ -1,3 +1,4 @@
 pub mod Delete
+pub mod Stages
 pub mod Keeps
 pub mod Exits

@@ -30,7 +30,8 @@ use Rattle.jobs.specs.Job.{Job, jobWords, badJob}
 use Rattle.jobs.specs.Way.{wayIn}
 use Rattle.jobs.specs.Requires.{entered-wide, valued-entered, valued-shaped}
 use Rattle.jobs.specs.Laws.{way-valued, way-declined, way-open}
-use Rattle.job_new.specs.New.{newAt, newIn, newAbsent, newOpen, newSized, newJob}
+use Rattle.job_new.specs.New.{newAt, newIn, newAbsent, newJob}
+use Rattle.job_new.specs.Stages.{newOpen, newSized}
 use Rattle.job_new.specs.Requires.{ready-of, ready-entered, ready-placed, placed-value, placed-note, placed-head, placed-after, placed-uid}
 
 module _ (z : Sizes) (tb : Table) (e : ℕ) (j : Job) where
@@ -87,11 +88,11 @@ new-sizes tb thread j e i h = rw (i, e) at h
 -- 1 and 2
 module _ (wk l tr : List ℕ) (thread : ℕ) (j : Job) {k : Check} (c : k ≡ entryCheck (store wk l tr)) where
   pub new-refused : {r : Refusal} → k ≡ Refused r → outcome (Refused r) wk l tr ≡ newJob (store wk l tr) thread j
-  unfolding newJob
+  unfolding newJob newSized newOpen
   new-refused a = on-declined wk l tr c (newSized thread j) a
 
   pub new-enters : {q : Check} {wk′ tr′ : List ℕ} → k ≡ Accepted → changed q wk′ tr′ ≡ newSized thread j (sizesOf (table wk tr)) (table wk tr) → outcome q wk′ l tr′ ≡ newJob (store wk l tr) thread j
-  unfolding newJob
+  unfolding newJob newSized newOpen
   new-enters a h = on-passed wk l tr c (newSized thread j) a h
 
 pub ruleset laws = (entered-head, entered-notes, entered-wide, valued-entered, valued-shaped, way-valued, ready-of, ready-entered, ready-placed, placed-value, placed-note, placed-head, placed-after, placed-uid, new-done, new-full, new-placed, new-uid, new-room, new-later, new-exists, new-absent, new-declined, new-goes, new-sizes, new-refused, new-enters, passing)

@@ -9,7 +9,8 @@ use Rattle.table.specs.declared.find.Lookup.{Lookup}
 use Rattle.table.specs.declared.find.Lookup.the-variants.{Later, Live, Absent}
 use Rattle.jobs.specs.Job.{Job}
 use Rattle.jobs.specs.Keeps.{Keeps, KeepsInside, accepted-keeps, refused-keeps, shapes, call-keeps}
-use Rattle.job_new.specs.New.{newAt, newIn, newAbsent, newLooked, newOpen, newSized, newJob}
+use Rattle.job_new.specs.New.{newAt, newIn, newAbsent, newJob}
+use Rattle.job_new.specs.Stages.{newLooked, newOpen, newSized}
 
 module _ (z : Sizes) (tb : Table) (e : ℕ) (j : Job) where
   in-keeps : (g : Found) → KeepsInside tb (newIn g z tb e j)
@@ -28,5 +29,5 @@ unfolding newSized newOpen
 sized-keeps thread j z tb = search (shapes, looked-keeps)
 
 pub new-keeps : (st : Store) (thread : ℕ) (j : Job) → Keeps st (newJob st thread j)
-unfolding newJob
+unfolding newJob newSized newOpen
 new-keeps st thread j = call-keeps st (newSized thread j) (sized-keeps thread j)

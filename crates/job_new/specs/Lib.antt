@@ -1,4 +1,5 @@
 pub mod New
+pub mod Stages
 pub mod Requires
 pub mod Keeps
 pub mod Exits

@@ -18,15 +18,15 @@ use Rattle.transient.specs.Layout.{openEpoch}
 use Rattle.transient.specs.Store.{Table, store, table, sizesOf}
 use Rattle.transient.specs.Entry.{entryCheck}
 use Rattle.transient.specs.Passed.{entry-with}
-use Rattle.table.specs.Find.{liveSlot, lookup}
+use Rattle.table.specs.Find.{liveSlot, lookedUp, lookup}
 use Rattle.table.specs.Laws.{live-below, lookup-below}
 use Rattle.table.specs.declared.find.Lookup.{Lookup}
 use Rattle.table.specs.declared.find.Lookup.the-variants.{Later, Live, Absent}
 use Rattle.job_read.specs.declared.Reading.the-variants.{Shown, Declined}
-use Rattle.job_read.specs.Read.{readFound, readLooked, readOpen, readSized, readEntered, readJob}
+use Rattle.job_read.specs.Read.{readLooked, readOpen, readSized, readEntered, readJob}
 
 module _ (z : Sizes) (tb : Table) (key s : ℕ) where
-  found-below : (f : Found) → liveSlot z tb (jobName key) ≡ f → readFound f ≡ Shown s → s < z .n
+  found-below : (f : Found) → liveSlot z tb (jobName key) ≡ f → readLooked (lookedUp f) ≡ Shown s → s < z .n
   found-below (At u) q r = let x : u ≡ s = cc in let b : u < z .n = live-below z tb (jobName key) u q in omega arith
   found-below Nothing q r = let x : _≡_ {A = ℕ} 0 1 = cc in absurd (omega arith)
 
@@ -40,7 +40,7 @@ module _ (z : Sizes) (tb : Table) (key s : ℕ) where
   sized-below thread h = go (leb (z .t) thread) (eqb key 0) (eqb (openEpoch (tb .transient) thread) 0) h
     where
       go : (a b c : Bool)
-          → cond a (Declined NoThread) (cond b (Declined BadArgument) (cond c (readFound (liveSlot z tb (jobName key))) (readLooked (lookup z tb (jobName key) (openEpoch (tb .transient) thread))))) ≡ Shown s → s < z .n
+          → cond a (Declined NoThread) (cond b (Declined BadArgument) (readLooked (cond c (lookedUp (liveSlot z tb (jobName key))) (lookup z tb (jobName key) (openEpoch (tb .transient) thread))))) ≡ Shown s → s < z .n
       go true b c q = let x : _≡_ {A = ℕ} 0 1 = cc in absurd (omega arith)
       go false true c q = let x : _≡_ {A = ℕ} 0 1 = cc in absurd (omega arith)
       go false false true q = found-below (liveSlot z tb (jobName key)) refl q

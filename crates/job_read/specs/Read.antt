@@ -4,8 +4,6 @@ use Prim.Native.Nat.{ℕ, _+_}
 use mathlib.Core.Bool.{cond}
 use mathlib.Core.List.{List, []}
 use lib.Dec.{leb, eqb}
-use Rattle.search.specs.declared.Found.{Found}
-use Rattle.search.specs.declared.Found.the-variants.{At, Nothing}
 use Rattle.reply.specs.declared.Check.{Check}
 use Rattle.reply.specs.declared.Check.the-variants.{Accepted, Refused}
 use Rattle.reply.specs.declared.Refusal.the-variants.{NoThread, BadArgument, Newer, NoJob}
@@ -16,24 +14,21 @@ use Rattle.transient.specs.declared.sizes.Sizes.{Sizes}
 use Rattle.transient.specs.Layout.{openEpoch}
 use Rattle.transient.specs.Store.{Store, Table, tableOf, sizesOf}
 use Rattle.transient.specs.Entry.{entryCheck}
-use Rattle.table.specs.Find.{liveSlot, lookup}
+use Rattle.table.specs.Find.{liveSlot, lookedUp, lookup}
 use Rattle.table.specs.declared.find.Lookup.{Lookup}
 use Rattle.table.specs.declared.find.Lookup.the-variants.{Later, Live, Absent}
 use Rattle.job_read.specs.declared.Reading.{Reading}
 use Rattle.job_read.specs.declared.Reading.the-variants.{Shown, Declined}
 
--- with no operation open refusal 9 is not asked
-abbrev pub readFound : Found → Reading
-readFound (At s) = Shown s
-readFound Nothing = Declined NoJob
-
+-- 9; 10: "no live job of that key"
 abbrev pub readLooked : Lookup → Reading
 readLooked Later = Declined Newer
 readLooked (Live s) = Shown s
 readLooked Absent = Declined NoJob
 
+-- with no operation open refusal 9 is not asked
 unfoldable pub readOpen : Sizes → Table → ℕ → ℕ → Reading
-readOpen z tb key e = cond (eqb e 0) (readFound (liveSlot z tb (jobName key))) (readLooked (lookup z tb (jobName key) e))
+readOpen z tb key e = readLooked (cond (eqb e 0) (lookedUp (liveSlot z tb (jobName key))) (lookup z tb (jobName key) e))
 
 -- 5, 8, then 9 and 10
 unfoldable pub readSized : ℕ → ℕ → Sizes → Table → Reading

@@ -30,7 +30,8 @@ use Rattle.jobs.specs.Job.{Job, jobWords, badJob}
 use Rattle.jobs.specs.Way.{wayIn}
 use Rattle.jobs.specs.Requires.{reaching}
 use Rattle.jobs.specs.Laws.{way-valued, way-declined, way-open}
-use Rattle.job_set.specs.Set.{rewritten, updated, setAt, setOpened, setSized, setJob}
+use Rattle.job_set.specs.Set.{rewritten, updated, setAt, setJob}
+use Rattle.job_set.specs.Stages.{setOpened, setSized}
 
 module _ (z : Sizes) (tb : Table) (e s : ℕ) where
   pub rewrite-done : (value : List ℕ) {wk tr : List ℕ} → wk ≡ setValue z (tb .working) s value → tr ≡ setWaiting z (tb .transient) e s → changed Accepted wk tr ≡ rewritten z tb e s value
@@ -87,11 +88,11 @@ set-sizes tb thread j e i h = rw (i, e) at h
 -- 1 and 2
 module _ (wk l tr : List ℕ) (thread : ℕ) (j : Job) {k : Check} (c : k ≡ entryCheck (store wk l tr)) where
   pub set-refused : {r : Refusal} → k ≡ Refused r → outcome (Refused r) wk l tr ≡ setJob (store wk l tr) thread j
-  unfolding setJob
+  unfolding setJob setSized setOpened
   set-refused a = on-declined wk l tr c (setSized thread j) a
 
   pub set-enters : {q : Check} {wk′ tr′ : List ℕ} → k ≡ Accepted → changed q wk′ tr′ ≡ setSized thread j (sizesOf (table wk tr)) (table wk tr) → outcome q wk′ l tr′ ≡ setJob (store wk l tr) thread j
-  unfolding setJob
+  unfolding setJob setSized setOpened
   set-enters a h = on-passed wk l tr c (setSized thread j) a h
 
 pub ruleset laws = (entered-notes, reaching, way-valued, rewrite-done, update-full, update-done, set-same, set-older, set-later, set-live, set-absent, set-declined, set-goes, set-sizes, set-refused, set-enters, passing)

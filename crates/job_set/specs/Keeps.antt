@@ -7,7 +7,8 @@ use Rattle.table.specs.declared.find.Lookup.{Lookup}
 use Rattle.table.specs.declared.find.Lookup.the-variants.{Later, Live, Absent}
 use Rattle.jobs.specs.Job.{Job}
 use Rattle.jobs.specs.Keeps.{Keeps, KeepsInside, refused-keeps, shapes, call-keeps}
-use Rattle.job_set.specs.Set.{rewritten, updated, setAt, setLooked, setOpened, setSized, setJob}
+use Rattle.job_set.specs.Set.{rewritten, updated, setAt, setJob}
+use Rattle.job_set.specs.Stages.{setLooked, setOpened, setSized}
 
 looked-keeps : (z : Sizes) (tb : Table) (e : ℕ) (j : Job) (k : Lookup) → KeepsInside tb (setLooked k z tb e j)
 unfolding setAt rewritten updated
@@ -20,5 +21,5 @@ unfolding setSized setOpened
 sized-keeps thread j z tb = search (shapes, looked-keeps)
 
 pub set-keeps : (st : Store) (thread : ℕ) (j : Job) → Keeps st (setJob st thread j)
-unfolding setJob
+unfolding setJob setSized setOpened
 set-keeps st thread j = call-keeps st (setSized thread j) (sized-keeps thread j)

@@ -1,3 +1,4 @@
 pub mod Set
+pub mod Stages
 pub mod Keeps
 pub mod Exits

@@ -1,13 +1,18 @@
--- What every call of an open operation asks first.
+-- What every call of an open operation asks first, and how new, set and delete go on.
 use Prim.Native.Nat.{ℕ}
 use mathlib.Core.Bool.{Bool, cond}
 use mathlib.Core.List.{List}
 use lib.Dec.{leb, eqb}
-use Rattle.reply.specs.declared.Refusal.the-variants.{NoThread, NotOpen, BadArgument}
+use Rattle.reply.specs.declared.Check.{Check}
+use Rattle.reply.specs.declared.Refusal.the-variants.{NoThread, NotOpen, BadArgument, Newer}
+use Rattle.image.specs.Name.{jobName}
 use Rattle.transient.specs.declared.sizes.Sizes.{Sizes}
 use Rattle.transient.specs.Layout.{openEpoch}
-use Rattle.transient.specs.Store.{Table}
-use Rattle.transient.specs.Calls.{Changed, refused}
+use Rattle.transient.specs.Store.{Store, Table, Outcome}
+use Rattle.transient.specs.Calls.{Changed, refused, onStore}
+use Rattle.table.specs.declared.find.Lookup.{Lookup}
+use Rattle.table.specs.declared.find.Lookup.the-variants.{Later, Live, Absent}
+use Rattle.table.specs.Find.{lookup}
 use Rattle.jobs.specs.declared.way.Way.{Way}
 use Rattle.jobs.specs.declared.way.Way.the-variants.{Open, Declined}
 
@@ -21,3 +26,15 @@ wayIn z tr thread bad =
 abbrev pub byWay : Way → Table → (ℕ → Changed) → Changed
 byWay (Open e) tb next = next e
 byWay (Declined r) tb next = refused r tb
+
+-- 9; else what the call does with the live slot, or where there is none
+abbrev pub byLookup : Lookup → Table → (ℕ → Changed) → Changed → Changed
+byLookup Later tb live absent = refused Newer tb
+byLookup (Live s) tb live absent = live s
+byLookup Absent tb live absent = absent
+
+-- new, set and delete of a key: refusals 1, 2, 5, 7, 8 and 9, then the call's own, told sizes, table and epoch
+abbrev pub onJob : Store → ℕ → ℕ → (Sizes → Bool) → (Sizes → Table → ℕ → ℕ → Changed) → (Sizes → Table → ℕ → Changed) → Outcome Check
+onJob st thread key bad live absent =
+    onStore st (λ z tb. byWay (wayIn z (tb .transient) thread (bad z)) tb
+    (λ e. byLookup (lookup z tb (jobName key) e) tb (live z tb e) (absent z tb e)))

@@ -1,0 +1,21 @@
+-- Begin and end with the sizes, as their code is told them.
+use Prim.Native.Nat.{ℕ}
+use mathlib.Core.Bool.{not, false}
+use lib.Dec.{leb, eqb}
+use Rattle.reply.specs.declared.Check.the-variants.{Accepted}
+use Rattle.reply.specs.declared.Refusal.the-variants.{NoThread, AlreadyOpen}
+use Rattle.image.specs.Layout.{clockOf}
+use Rattle.transient.specs.declared.sizes.Sizes.{Sizes}
+use Rattle.transient.specs.Layout.{openEpoch, setOpen}
+use Rattle.transient.specs.Store.{Table}
+use Rattle.transient.specs.Calls.{Changed, changed, declines}
+use Rattle.jobs.specs.Way.{wayIn, byWay}
+
+unfoldable pub beginSized : ℕ → Sizes → Table → Changed
+beginSized thread z tb =
+    declines (leb (z .t) thread) NoThread tb
+    (declines (not (eqb (openEpoch (tb .transient) thread) 0)) AlreadyOpen tb
+    (changed Accepted (tb .working) (setOpen (tb .transient) thread (clockOf (tb .working)))))
+
+unfoldable pub endSized : ℕ → Sizes → Table → Changed
+endSized thread z tb = byWay (wayIn z (tb .transient) thread false) tb (λ e. changed Accepted (tb .working) (setOpen (tb .transient) thread 0))
