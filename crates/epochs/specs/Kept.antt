@@ -290,7 +290,7 @@ advances-done (suc more) (suc k) lines st q e =
     go : Onward k st
         → (Quiet (suc k) (advance st .store) → budget (tableOf (advance st .store)) (suc k) ≤ more → Done (syncFrom more (suc k) (suc lines) (advance st .store)))
         → (Quiet k (advance st .store) → budget (tableOf (advance st .store)) k ≤ more → Done (syncFrom more k (suc lines) (advance st .store)))
-        → Done (byReply (advance st .reply) (syncFrom more (suc k) (suc lines)) (syncFrom more k (suc lines)) (advance st .store))
+        → Done (byReply (advance st .reply) (syncFrom more (suc k) (suc lines)) (syncFrom more k (suc lines)) (λ r s. record { reply = sync-reply.Declined r; store = s }) (advance st .store))
     go (went r x) a b = rw r (a x (omega (arith, budget-on (advance-moves st) k r)))
     go (ticked r x) a b = rw r (b x (omega (arith, budget-tick (advance-moves st) k r)))
 

@@ -7,6 +7,7 @@ use lib.Dec.{ltb, eqb}
 use Rattle.search.specs.Some.{anyOf}
 use Rattle.reply.specs.declared.Check.{Check}
 use Rattle.reply.specs.declared.Check.the-variants.{Accepted}
+use Rattle.reply.specs.declared.Refusal.{Refusal}
 use Rattle.reply.specs.declared.Refusal.the-variants.{StillOpen, LastEpoch}
 use Rattle.reply.specs.Refusals.{refuse, andThen, declinedNumber}
 use Rattle.image.specs.Layout.{mostNumber, slotsOf, clockOf}
@@ -29,17 +30,18 @@ syncCheck st =
     (refuse (anyOpen (st .transient) (sizesOf (tableOf st) .t)) StillOpen (refuse (ltb (mostNumber - 2) (clockOf (st .working))) LastEpoch Accepted))
 
 -- by an advance call's reply
-abbrev pub byReply : Advance → (Store → Outcome Sync) → (Store → Outcome Sync) → Store → Outcome Sync
-byReply WentOn on tick st = on st
-byReply Ticked on tick st = tick st
-byReply (Declined r) on tick st = record { reply = sync-reply.Declined r; store = st }
+abbrev pub byReply : {S A : Type 0} → Advance → (S → A) → (S → A) → (Refusal → S → A) → S → A
+byReply WentOn on tick declined s = on s
+byReply Ticked on tick declined s = tick s
+byReply (Declined r) on tick declined s = declined r s
 
 -- advance calls until so many more ticks have happened; `more` bounds the calls, and is never used up
 unfoldable pub syncFrom : ℕ → ℕ → ℕ → Store → Outcome Sync
 syncFrom more zero lines st = record { reply = sync-reply.Done lines; store = st }
 syncFrom zero (suc ticks) lines st = record { reply = sync-reply.Declined LastEpoch; store = st }
 syncFrom (suc more) (suc ticks) lines st =
-    byReply (advance st .reply) (syncFrom more (suc ticks) (suc lines)) (syncFrom more ticks (suc lines)) (advance st .store)
+    byReply (advance st .reply) (syncFrom more (suc ticks) (suc lines)) (syncFrom more ticks (suc lines))
+    (λ r s. record { reply = sync-reply.Declined r; store = s }) (advance st .store)
 
 -- an advance stores at most one line for a slot it reclaims, two for one it writes back, and one for the clock
 abbrev pub mostLines : ℕ → ℕ

@@ -7,10 +7,10 @@ use Rattle.reply.specs.declared.Check.the-variants.{Accepted}
 use Rattle.image.specs.Layout.{slotsOf}
 use Rattle.transient.specs.Store.{Store, tableOf}
 use Rattle.epochs.specs.Advance.{advance}
-use Rattle.epochs.specs.Sync.{syncCheck, mostLines}
+use Rattle.epochs.specs.Sync.{syncCheck, byReply, mostLines}
 use Rattle.epochs.specs.Left.{advance-moves, budget, budget-top, budget-low, budget-on, budget-tick}
 use Rattle.epochs.specs.Kept.{Quiet, check-quiet, quiet-place, Onward, went, ticked, advance-quiet, quiet-back, back-same}
-use Rattle.guarantee.specs.Trace.{LineCode, Moment, moment, afterLines, afterLine, toldAdvance, goingOn, afterAdvance, syncing, syncs, through}
+use Rattle.guarantee.specs.Trace.{LineCode, Moment, moment, stay, afterLines, afterLine, toldAdvance, afterAdvance, syncing, syncs, through}
 
 -- the reference map has heard of it
 pub record Ended (m : Moment) : Type 0 where
@@ -43,7 +43,7 @@ syncing-ends (suc more) (suc ticks) k lines m u =
 
     go : Onward ticks (x .store) → ((y : Moment) → Underway more (suc ticks) (y .store) → Ended (syncing more (suc ticks) (suc k) lines y .last))
         → ((y : Moment) → Underway more ticks (y .store) → Ended (syncing more ticks (suc k) lines y .last))
-        → Ended (goingOn (advance (x .store) .reply) (syncing more (suc ticks) (suc k) lines) (syncing more ticks (suc k) lines) (moment (advance (x .store) .store) (toldAdvance (advance (x .store) .reply) (x .plain))) .last)
+        → Ended (byReply (advance (x .store) .reply) (syncing more (suc ticks) (suc k) lines) (syncing more ticks (suc k) lines) (λ _. stay) (moment (advance (x .store) .store) (toldAdvance (advance (x .store) .reply) (x .plain))) .last)
     go (went r q) a b = rw r (a _ (record { quiet = q; enough = omega (arith, v .enough, budget-on (advance-moves (x .store)) ticks r) }))
     go (ticked r q) a b = rw r (b _ (record { quiet = q; enough = omega (arith, v .enough, budget-tick (advance-moves (x .store)) ticks r) }))
 

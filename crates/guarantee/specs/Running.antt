@@ -12,9 +12,9 @@ use Rattle.transient.specs.Store.{Store, tableOf, sizesOf}
 use Rattle.epochs.specs.declared.Advance.{Advance}
 use Rattle.epochs.specs.declared.Advance.the-variants.{WentOn, Ticked, Declined}
 use Rattle.epochs.specs.Advance.{advance}
-use Rattle.epochs.specs.Sync.{syncCheck, mostLines}
+use Rattle.epochs.specs.Sync.{syncCheck, byReply, mostLines}
 use Rattle.crash.specs.Reference.{Jobs}
-use Rattle.guarantee.specs.Trace.{LineCode, Call, begins, ends, news, sets, deletes, reads, advances, syncs, writesBack, Plain, toldAdvance, toldDone, Moment, moment, startOf, Trace, stay, one, followed, afterAdvance, afterLine, afterLines, goingOn, advanced, syncing, synced, through, run, moments}
+use Rattle.guarantee.specs.Trace.{LineCode, Call, begins, ends, news, sets, deletes, reads, advances, syncs, writesBack, Plain, toldAdvance, toldDone, Moment, moment, startOf, Trace, stay, one, followed, afterAdvance, afterLine, afterLines, advanced, syncing, synced, through, run, moments}
 use Rattle.guarantee.specs.Promise.{jobsOf, Started}
 use Rattle.guarantee.specs.Good.{Good}
 use Rattle.guarantee.specs.Opening.{begin-good, end-good}
@@ -88,11 +88,11 @@ module _ (sz : Sizes) (start : Jobs) where
       → GoodTrace (advanced on tick m)
   unfolding afterAdvance
   advances-good ticks on tick m g h a b =
-      good-then (one (afterAdvance m)) (goingOn (advance (m .store) .reply) on tick) (good-one (afterAdvance m) (advanced-good m g))
+      good-then (one (afterAdvance m)) (byReply (advance (m .store) .reply) on tick (λ _. stay)) (good-one (afterAdvance m) (advanced-good m g))
       (go (advance (m .store) .reply) (advance-good g))
     where
       go : (r : Advance) → Good sz start (advance (m .store) .store) (toldAdvance r (m .plain))
-          → GoodTrace (goingOn r on tick (moment (advance (m .store) .store) (toldAdvance r (m .plain))))
+          → GoodTrace (byReply r on tick (λ _. stay) (moment (advance (m .store) .store) (toldAdvance r (m .plain))))
       go WentOn i = a _ i h
       go Ticked i = b _ i (λ e j. omega (arith, h e j))
       go (Declined r) i = good-stay _ i

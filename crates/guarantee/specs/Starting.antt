@@ -21,7 +21,8 @@ use Rattle.transient.specs.Store.{Store, afterCheck}
 use Rattle.survival.specs.Survivors.{survivor}
 use Rattle.acceptance.specs.Accept.{headCheck, slotsCheck, imageCheck}
 use Rattle.recovery.specs.declared.Recovery.the-variants.{Done, Declined}
-use Rattle.recovery.specs.Recover.{nextFreed, uidOf, nextUid, lengthsFit, recoverEntryCheck, recoverCheck, finished, freeing, recover}
+use Rattle.recovery.specs.Recover.{nextFreed, nextUid, lengthsFit, recoverCheck, finished, freeing, recover}
+use Rattle.recovery.specs.Requires.{uidOf, recoverEntryCheck}
 use Rattle.recovery.specs.Steps.{filledAt, done-survivors}
 use Rattle.guarantee.specs.Promise.{Started, fresh, recovered}
 use Rattle.guarantee.specs.Clean.{Begins, blank-clean, clean-good}

@@ -22,10 +22,10 @@ use Rattle.epochs.specs.declared.Advance.{Advance}
 use Rattle.epochs.specs.declared.Advance.the-variants.{WentOn, Ticked, Declined}
 use Rattle.epochs.specs.Advance.{reclaimed, contentsFlushed, headerFlushed, ticking, step, advance}
 use Rattle.epochs.specs.Ways.{every-way, nextStep, advance-way, back-way}
-use Rattle.epochs.specs.Sync.{syncCheck, mostLines}
+use Rattle.epochs.specs.Sync.{syncCheck, byReply, mostLines}
 use Rattle.epochs.specs.WriteBack.{writeBack}
 use Rattle.guarantee.specs.Changing.{call-way}
-use Rattle.guarantee.specs.Trace.{LineCode, Call, begins, ends, news, sets, deletes, reads, advances, syncs, writesBack, Moment, Trace, one, followed, afterAdvance, afterLine, afterLines, goingOn, advanced, syncing, synced, through, run}
+use Rattle.guarantee.specs.Trace.{LineCode, Call, begins, ends, news, sets, deletes, reads, advances, syncs, writesBack, Moment, Trace, stay, one, followed, afterAdvance, afterLine, afterLines, advanced, syncing, synced, through, run}
 
 -- l′ is l, or l with one line stored: a header, contents, or the clock
 pub data OneLine (l : List ℕ) : List ℕ → Type 0 where
@@ -90,7 +90,7 @@ unfolding afterLines afterLine
 lines-chained [] m = stays
 lines-chained (k ∷ ks) m = chained-then (one (afterLine k m)) (afterLines ks) (one-step (write-back-one (m .store) (k .slot) (k .code))) (lines-chained ks (afterLine k m))
 
-going-chained : (r : Advance) (on tick : Moment → Trace) (m : Moment) → ((x : Moment) → Chained x (on x)) → ((x : Moment) → Chained x (tick x)) → Chained m (goingOn r on tick m)
+going-chained : (r : Advance) (on tick : Moment → Trace) (m : Moment) → ((x : Moment) → Chained x (on x)) → ((x : Moment) → Chained x (tick x)) → Chained m (byReply r on tick (λ _. stay) m)
 going-chained WentOn on tick m a b = a m
 going-chained Ticked on tick m a b = b m
 going-chained (Declined r) on tick m a b = stays

@@ -14,7 +14,7 @@ use Rattle.epochs.specs.declared.Sync.{Sync}
 use Rattle.epochs.specs.declared.Sync.the-variants as reply
 use Rattle.epochs.specs.Advance.{advance}
 use Rattle.epochs.specs.Sync.{syncCheck, byReply, syncFrom, mostLines, sync}
-use Rattle.guarantee.specs.Trace.{Moment, moment, Trace, one, followed, afterAdvance, afterLines, toldAdvance, goingOn, syncing, synced, syncs, through}
+use Rattle.guarantee.specs.Trace.{Moment, moment, Trace, stay, one, followed, afterAdvance, afterLines, toldAdvance, syncing, synced, syncs, through}
 
 -- the trace tr is that of a sync with the answer a
 pub record Same (a : Outcome Sync) (tr : Trace) : Type 0 where
@@ -35,8 +35,8 @@ same-syncing (suc more) (suc ticks) k lines m =
     go : (r : Advance)
         → ((x : Moment) → Same (syncFrom more (suc ticks) (suc lines) (x .store)) (syncing more (suc ticks) (suc k) (λ _. []) x))
         → ((x : Moment) → Same (syncFrom more ticks (suc lines) (x .store)) (syncing more ticks (suc k) (λ _. []) x))
-        → Same (byReply r (syncFrom more (suc ticks) (suc lines)) (syncFrom more ticks (suc lines)) (advance (m .store) .store))
-        (followed (one (moment (advance (m .store) .store) (toldAdvance r (m .plain)))) (goingOn r (syncing more (suc ticks) (suc k) (λ _. [])) (syncing more ticks (suc k) (λ _. []))))
+        → Same (byReply r (syncFrom more (suc ticks) (suc lines)) (syncFrom more ticks (suc lines)) (λ r s. record { reply = reply.Declined r; store = s }) (advance (m .store) .store))
+        (followed (one (moment (advance (m .store) .store) (toldAdvance r (m .plain)))) (byReply r (syncing more (suc ticks) (suc k) (λ _. [])) (syncing more ticks (suc k) (λ _. [])) (λ _. stay)))
     go WentOn a b = let x = a (moment (advance (m .store) .store) (m .plain)) in record { store = x .store; done = x .done }
     go Ticked a b = let x = b (moment (advance (m .store) .store) (toldAdvance Ticked (m .plain))) in record { store = x .store; done = x .done }
     go (Declined r) a b = record { store = refl; done = λ k e. not-done e }

@@ -16,7 +16,7 @@ use Rattle.job_delete.specs.Delete.{deleteJob}
 use Rattle.epochs.specs.declared.Advance.{Advance}
 use Rattle.epochs.specs.declared.Advance.the-variants.{WentOn, Ticked, Declined}
 use Rattle.epochs.specs.Advance.{advance}
-use Rattle.epochs.specs.Sync.{syncCheck, mostLines}
+use Rattle.epochs.specs.Sync.{syncCheck, byReply, mostLines}
 use Rattle.epochs.specs.WriteBack.{writeBack}
 use Rattle.crash.specs.Reference.{Act, made, altered, dropped, Change, Value}
 
@@ -122,15 +122,9 @@ afterLines [] m = stay m
 afterLines (k ∷ ks) m = followed (one (afterLine k m)) (afterLines ks)
 
 -- ---- sync: "in a run it stands for those advance calls, so that a cut, or a line written back, may fall after any of them"
--- by an advance call's reply: a declined one ends the sync
-abbrev pub goingOn : Advance → (Moment → Trace) → (Moment → Trace) → Moment → Trace
-goingOn WentOn on tick m = on m
-goingOn Ticked on tick m = tick m
-goingOn (Declined r) on tick m = stay m
-
--- one advance call of a sync, then what follows by its reply
+-- one advance call of a sync, then what follows by its reply: a declined one ends the sync
 abbrev pub advanced : (Moment → Trace) → (Moment → Trace) → Moment → Trace
-advanced on tick m = followed (one (afterAdvance m)) (goingOn (advance (m .store) .reply) on tick)
+advanced on tick m = followed (one (afterAdvance m)) (byReply (advance (m .store) .reply) on tick (λ _. stay))
 
 -- lines written back, an advance call, and so on until so many more ticks have happened; at most `more` advance calls
 unfoldable pub syncing : ℕ → ℕ → ℕ → (ℕ → List LineCode) → Moment → Trace

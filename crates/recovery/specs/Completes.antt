@@ -20,7 +20,8 @@ use Rattle.image.specs.Line.{headerLine, storeLine}
 use Rattle.transient.specs.Store.{Store, store, Outcome, afterCheck}
 use Rattle.survival.specs.Survivors.{survivor}
 use Rattle.acceptance.specs.Accept.{imageCheck}
-use Rattle.recovery.specs.Recover.{nextFreed, lengthsFit, recoverEntryCheck, recoverCheck, finished, freeing, recover}
+use Rattle.recovery.specs.Recover.{nextFreed, lengthsFit, recoverCheck, finished, freeing, recover}
+use Rattle.recovery.specs.Requires.{recoverEntryCheck}
 use Rattle.recovery.specs.Steps.{SameSurvivors, filledAt, step-keeps, step-accepted, step-lowers, done-survivors}
 use Rattle.recovery.specs.declared.Recovery.{Recovery}
 use Rattle.recovery.specs.declared.Recovery.the-variants.{WentOn, Done, Declined}

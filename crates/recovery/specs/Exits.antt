@@ -34,8 +34,8 @@ use Rattle.acceptance.specs.Accept.{headCheck, slotsCheck}
 use Rattle.acceptance.specs.Sound.{Sound, sound, uid-top}
 use Rattle.recovery.specs.declared.Recovery.{Recovery}
 use Rattle.recovery.specs.declared.Recovery.the-variants.{WentOn, Done, Declined}
-use Rattle.recovery.specs.Recover.{antiAt, stale, nextFreed, uidOf, nextUid, lengthsFit, recoverEntryCheck, recoverCheck, finished, freeing, recover}
-use Rattle.recovery.specs.Requires.{FlagAt, flag-at, flag-header, flag-of, Uids, Finishing, Judged, recoverSized}
+use Rattle.recovery.specs.Recover.{antiAt, stale, nextFreed, nextUid, lengthsFit, recoverCheck, finished, freeing, recover}
+use Rattle.recovery.specs.Requires.{uidOf, recoverEntryCheck, FlagAt, flag-at, flag-header, flag-of, Uids, Finishing, Judged, recoverSized}
 
 -- ---- what is freed next
 pub anti-is : (l : List ℕ) (s : ℕ) {c : ℕ} {r : Bool} → c ≡ clockOf l → r ≡ keptAnti c (header l s) → r ≡ antiAt l s
@@ -212,11 +212,11 @@ module _ (wk l t : List ℕ) (n w : ℕ) {k : Check} (c : k ≡ slotsCheck l n w
 
 module _ (wk l t : List ℕ) {k : Check} (c : k ≡ recoverEntryCheck (length wk) l (length t)) where
   pub recover-declines : {r : Refusal} → k ≡ Refused r → outcome (Declined r) wk l t ≡ recover (store wk l t)
-  unfolding recover recoverCheck
+  unfolding recover recoverCheck recoverEntryCheck
   recover-declines a = rw (← c, a)
 
   pub recover-goes : (n w : ℕ) {r : Outcome Recovery} → k ≡ Accepted → n ≡ slotsOf l → w ≡ widthOf l → r ≡ recoverSized (store wk l t) n w → r ≡ recover (store wk l t)
-  unfolding recover recoverCheck recoverSized
+  unfolding recover recoverCheck recoverEntryCheck recoverSized
   recover-goes n w a p q h = rw (← c, a, ← p, ← q) h
 
 pub ruleset steps = (tests, firsts, marks, climbs, flag-at, flag-header, flag-of, anti-is, stale-free, stale-survives, stale-anti, stale-yes, freed-stale, freed-anti, raise-miss, raise-up, raise-level, uid-fits, uid-is, finish-marked, finish-header, finish-slots, finish-blank, finish-done, free-on, free-done, entry-shape, entry-working, entry-threads, entry-head, entry-first, entry-slots, judged, judged-long, judged-marked, judged-headers, judged-finishing, step-declines, step-goes, recover-declines, recover-goes)

@@ -36,25 +36,18 @@ orElse Nothing f = f
 unfoldable pub nextFreed : List ℕ → ℕ → Found
 nextFreed l n = orElse (firstOf (stale l n) n) (firstOf (antiAt l) n)
 
-abbrev pub uidOf : List ℕ → ℕ → ℕ
-uidOf l s = header l s .uid
-
 -- "The next uid is one more than the largest surviving uid, 1 if none."
 unfoldable pub nextUid : List ℕ → ℕ → ℕ
-nextUid l n = largest (survivor l n) (uidOf l) n + 1
+nextUid l n = largest (survivor l n) (λ s. header l s .uid) n + 1
 
 -- "fresh and recover judge only the lengths of what they fill"
 unfoldable pub lengthsFit : ℕ → List ℕ → ℕ → Bool
 lengthsFit working l transient = eqb working (length l) && threadsOk transient (slotsOf l)
 
--- refusals 1 and 2 of recover
-unfoldable pub recoverEntryCheck : ℕ → List ℕ → ℕ → Check
-recoverEntryCheck working l transient = refuse (not (lengthsFit working l transient)) BadSizes (headCheck l)
-
 unfoldable pub recoverCheck : Store → Check
 recoverCheck st =
     andThen
-    (recoverEntryCheck (length (st .working)) (st .persistent) (length (st .transient)))
+    (refuse (not (lengthsFit (length (st .working)) (st .persistent) (length (st .transient)))) BadSizes (headCheck (st .persistent)))
     (slotsCheck (st .persistent) (slotsOf (st .persistent)) (widthOf (st .persistent)))
 
 -- "frees the next such mark, leaves working and notes alone and replies went on. The call that finds none to free replies done;

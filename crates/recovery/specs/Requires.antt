@@ -1,18 +1,28 @@
 -- What functions inside require: a flag beside an image, uids in range, and what refusals 1 and 2 of recover leave.
 use Prim.Native.Nat.{ℕ, _≤_, _<_}
 use mathlib.Core.Path.{_≡_}
-use mathlib.Core.Bool.{Bool}
+use mathlib.Core.Bool.{Bool, not}
 use mathlib.Core.List.{List}
 use lib.ListN.{length}
-use Rattle.image.specs.Layout.{mostNumber}
+use Rattle.reply.specs.declared.Check.{Check}
+use Rattle.reply.specs.declared.Refusal.the-variants.{BadSizes}
+use Rattle.reply.specs.Refusals.{refuse}
+use Rattle.image.specs.Layout.{mostNumber, header}
 use Rattle.image.specs.Requires.{HeaderFits, Sized}
 use Rattle.transient.specs.Layout.{headWords}
 use Rattle.transient.specs.Store.{Store, Outcome, afterCheck}
 use Rattle.survival.specs.Requires.{HeaderOf, Marked, header-in}
-use Rattle.acceptance.specs.Accept.{slotsCheck}
-use Rattle.recovery.specs.Recover.{nextFreed, uidOf, freeing}
+use Rattle.acceptance.specs.Accept.{headCheck, slotsCheck}
+use Rattle.recovery.specs.Recover.{nextFreed, lengthsFit, freeing}
 use Rattle.recovery.specs.declared.Recovery.{Recovery}
 use Rattle.recovery.specs.declared.Recovery.the-variants.{Declined}
+
+abbrev pub uidOf : List ℕ → ℕ → ℕ
+uidOf l s = header l s .uid
+
+-- refusals 1 and 2, before the slots are judged
+unfoldable pub recoverEntryCheck : ℕ → List ℕ → ℕ → Check
+recoverEntryCheck working l transient = refuse (not (lengthsFit working l transient)) BadSizes (headCheck l)
 
 pub record FlagAt (l : List ℕ) (n s : ℕ) (flags : List Bool) : Type 0 where
   pub marked : Marked l n flags

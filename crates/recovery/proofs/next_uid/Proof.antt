@@ -3,7 +3,7 @@ use borrow.Author.Needs.{needs}
 use Prim.Native.Nat.{_-_}
 use Rattle.search.specs.Largest.{Climbing}
 use Rattle.survival.specs.Survivors.{survivor}
-use Rattle.recovery.specs.Recover.{uidOf}
+use Rattle.recovery.specs.Requires.{uidOf}
 use Rattle.recovery.specs.Exits.{steps}
 use Rattle.recovery.proofs.next_uid.Statement.{statement}
 use Rattle.recovery.proofs.next_uid.Tie as tie
