@@ -3,10 +3,9 @@ use Prim.Native.Nat.{ℕ, _+_, _-_}
 use mathlib.Core.Bool.{Bool, not, cond, _&&_, _||_}
 use mathlib.Core.List.{List}
 use lib.Dec.{leb, ltb, eqb}
-use Rattle.search.specs.First.{firstOf}
+use Rattle.search.specs.First.{firstOf, whereFound}
 use Rattle.search.specs.Some.{anyOf}
 use Rattle.search.specs.declared.Found.{Found}
-use Rattle.search.specs.declared.Found.the-variants.{At, Nothing}
 use Rattle.reply.specs.declared.Check.{Check}
 use Rattle.reply.specs.declared.Check.the-variants.{Accepted}
 use Rattle.reply.specs.declared.Refusal.the-variants.{StillOpen, LastEpoch}
@@ -88,19 +87,11 @@ ticking z st c =
     (emptied z (st .transient) (c - 1)) (place idle 0)
 
 -- ---- the next line, from a place on
-abbrev pub flushing : Found → Sizes → Store → ℕ → Stepped
-flushing (At s) z st c = contentsFlushed z st s
-flushing Nothing z st c = ticking z st c
-
 unfoldable pub flushFrom : Sizes → Store → ℕ → ℕ → Stepped
-flushFrom z st c p = flushing (waitingFrom z (st .transient) c p) z st c
-
-abbrev pub reclaiming : Found → Sizes → Store → ℕ → Stepped
-reclaiming (At s) z st c = reclaimed z st s
-reclaiming Nothing z st c = flushFrom z st c 0
+flushFrom z st c p = whereFound (waitingFrom z (st .transient) c p) (contentsFlushed z st) (ticking z st c)
 
 unfoldable pub reclaimFrom : Sizes → Store → ℕ → ℕ → Stepped
-reclaimFrom z st c p = reclaiming (dueFrom z (tableOf st) c p) z st c
+reclaimFrom z st c p = whereFound (dueFrom z (tableOf st) c p) (reclaimed z st) (flushFrom z st c 0)
 
 -- one step from a place; where none is underway an advance begins
 unfoldable pub step : Sizes → Store → ℕ → Place → Stepped

@@ -12,6 +12,7 @@ use native.Mathlib.Omega.{arith}
 use Rattle.search.specs.Bools.{cases}
 use Rattle.search.specs.declared.Found.{Found}
 use Rattle.search.specs.declared.Found.the-variants.{At, Nothing}
+use Rattle.search.specs.First.{whereFound}
 use Rattle.reply.specs.declared.Refusal.{Refusal}
 use Rattle.image.specs.Layout.{slotsOf, clockOf, freeHeader}
 use Rattle.image.specs.Laws.{front-past-header, word-past-clock}
@@ -24,7 +25,7 @@ use Rattle.transient.specs.Passed.{entry-with}
 use Rattle.epochs.specs.declared.Place.{Place}
 use Rattle.epochs.specs.declared.Advance.{Advance}
 use Rattle.epochs.specs.declared.Advance.the-variants.{WentOn, Ticked, Declined}
-use Rattle.epochs.specs.Advance.{idle, reclaimNext, contentsNext, headerNext, clockNext, Stepped, place, passing, dueFrom, reclaimed, waitingFrom, contentsFlushed, headerFlushed, ticking, flushing, flushFrom, reclaiming, reclaimFrom, step, noted, advance}
+use Rattle.epochs.specs.Advance.{idle, reclaimNext, contentsNext, headerNext, clockNext, Stepped, place, passing, dueFrom, reclaimed, waitingFrom, contentsFlushed, headerFlushed, ticking, flushFrom, reclaimFrom, step, noted, advance}
 use Rattle.epochs.specs.Sync.{mostLines}
 use Rattle.epochs.specs.Moved.{notedPlace}
 use Rattle.epochs.specs.Ways.{nextStep, advance-way}
@@ -123,7 +124,7 @@ module _ (z : Sizes) (st : Store) (c most : ℕ) where
   unfolding flushFrom contentsFlushed left
   goes-flush p h m = go (waitingFrom z (st .transient) c p) refl
     where
-      go : (f : Found) → waitingFrom z (st .transient) c p ≡ f → Goes st (z .n) most (flushing f z st c)
+      go : (f : Found) → waitingFrom z (st .transient) c p ≡ f → Goes st (z .n) most (whereFound f (contentsFlushed z st) (ticking z st c))
       go (At s) e =
           let b = waiting-between z (st .transient) c p e in
           let lo = b .from in
@@ -135,7 +136,7 @@ module _ (z : Sizes) (st : Store) (c most : ℕ) where
   unfolding reclaimFrom
   goes-reclaim p h m = go (dueFrom z (tableOf st) c p) refl
     where
-      go : (f : Found) → dueFrom z (tableOf st) c p ≡ f → Goes st (z .n) most (reclaiming f z st c)
+      go : (f : Found) → dueFrom z (tableOf st) c p ≡ f → Goes st (z .n) most (whereFound f (reclaimed z st) (flushFrom z st c 0))
       go (At s) e = goes-reclaimed p s (due-between z (tableOf st) c p e) m
       go Nothing e = goes-flush 0 (omega arith) (omega arith)
 

@@ -6,6 +6,7 @@ use mathlib.Core.Bool.{Bool, true, false, cond, _||_}
 use lib.Dec.{leb, ltb, eqb}
 use Rattle.search.specs.declared.Found.{Found}
 use Rattle.search.specs.declared.Found.the-variants.{At, Nothing}
+use Rattle.search.specs.First.{whereFound}
 use Rattle.reply.specs.declared.Check.{Check}
 use Rattle.reply.specs.declared.Check.the-variants.{Accepted, Refused}
 use Rattle.reply.specs.declared.Refusal.{Refusal}
@@ -19,7 +20,7 @@ use Rattle.transient.specs.Entry.{entryCheck}
 use Rattle.epochs.specs.declared.Place.{Place}
 use Rattle.epochs.specs.declared.Advance.{Advance}
 use Rattle.epochs.specs.declared.Advance.the-variants.{Declined}
-use Rattle.epochs.specs.Advance.{reclaimNext, contentsNext, headerNext, clockNext, Stepped, dueFrom, reclaimed, waitingFrom, contentsFlushed, headerFlushed, ticking, flushing, flushFrom, reclaiming, reclaimFrom, step, advanceCheck, noted, advanceSized, advance}
+use Rattle.epochs.specs.Advance.{reclaimNext, contentsNext, headerNext, clockNext, Stepped, dueFrom, reclaimed, waitingFrom, contentsFlushed, headerFlushed, ticking, flushFrom, reclaimFrom, step, advanceCheck, noted, advanceSized, advance}
 use Rattle.epochs.specs.WriteBack.{writeBackSized, writeBack}
 use Rattle.epochs.specs.Moved.{notedPlace}
 
@@ -29,7 +30,7 @@ module _ (P : Stepped → Type 0) (z : Sizes) (st : Store) (c : ℕ) (reclaims :
   unfolding flushFrom
   flush-way p = go (waitingFrom z (st .transient) c p)
     where
-      go : (f : Found) → P (flushing f z st c)
+      go : (f : Found) → P (whereFound f (contentsFlushed z st) (ticking z st c))
       go (At s) = line s
       go Nothing = ticks
 
@@ -37,7 +38,7 @@ module _ (P : Stepped → Type 0) (z : Sizes) (st : Store) (c : ℕ) (reclaims :
   unfolding reclaimFrom
   reclaim-way p = go (dueFrom z (tableOf st) c p)
     where
-      go : (f : Found) → P (reclaiming f z st c)
+      go : (f : Found) → P (whereFound f (reclaimed z st) (flushFrom z st c 0))
       go (At s) = reclaims s
       go Nothing = flush-way 0
 

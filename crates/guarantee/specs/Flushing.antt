@@ -8,7 +8,7 @@ use lib.Dec.{leb, ltb, eqb}
 use borrow.Author.Tests.{leb-false, le-leb}
 use native.Mathlib.Omega.{arith}
 use Rattle.search.specs.Bools.{cases, never, refuted, and-both, or-left}
-use Rattle.search.specs.First.{found-first, found-nothing}
+use Rattle.search.specs.First.{found-first, found-nothing, whereFound}
 use Rattle.search.specs.declared.Found.{Found}
 use Rattle.search.specs.declared.Found.the-variants.{At, Nothing}
 use Rattle.reply.specs.declared.Check.{Check}
@@ -24,7 +24,7 @@ use Rattle.transient.specs.Layout.{retiredIn, isWaiting}
 use Rattle.transient.specs.Store.{Store, store, Outcome, outcome, afterCheck}
 use Rattle.transient.specs.Entry.{entryCheck}
 use Rattle.transient.specs.Laws.{waiting-again}
-use Rattle.epochs.specs.Advance.{headerNext, contentsNext, clockNext, waitingFrom, contentsFlushed, headerFlushed, flushing, flushFrom, passing}
+use Rattle.epochs.specs.Advance.{ticking, headerNext, contentsNext, clockNext, waitingFrom, contentsFlushed, headerFlushed, flushFrom, passing}
 use Rattle.epochs.specs.WriteBack.{heldLine, writeBackSized, writeBack}
 use Rattle.crash.specs.Table.{Put}
 use Rattle.crash.specs.Reference.{Jobs}
@@ -145,7 +145,7 @@ module _ {sz : Sizes} {start : Jobs} {st : Store} {p : Plain} (y : Ready sz star
   unfolding flushFrom waitingFrom contentsFlushed
   flush-good q i = go (waitingFrom sz tr c q) refl
     where
-      go : (f : Found) → waitingFrom sz tr c q ≡ f → Owed sz start p (flushing f sz st c)
+      go : (f : Found) → waitingFrom sz tr c q ≡ f → Owed sz start p (whereFound f (contentsFlushed sz st) (ticking sz st c))
       go (At s) e =
           let f = found-first (waits q) (sz .n) e in
           let k = f .below in

@@ -8,7 +8,7 @@ use mathlib.Core.Option.{Option, none, some}
 use native.Mathlib.Omega.{arith}
 use native.Mathlib.Decide.{ℕ-discrete}
 use Rattle.search.specs.Bools.{never, and-left, and-right, and-both}
-use Rattle.search.specs.First.{firstOf, firstOf-same, found-first, found-nothing}
+use Rattle.search.specs.First.{firstOf, firstOf-same, found-first, found-nothing, whereFound}
 use Rattle.search.specs.declared.Found.{Found}
 use Rattle.search.specs.declared.Found.the-variants.{At, Nothing}
 use Rattle.reply.specs.declared.Check.the-variants.{Accepted}
@@ -18,7 +18,7 @@ use Rattle.survival.specs.Survivors.{survivor}
 use Rattle.acceptance.specs.Accept.{survivesAs, imageCheck}
 use Rattle.recovery.specs.Steps.{SameSurvivors, survivors-apart, survives-same}
 use Rattle.crash.specs.Reference.{Value}
-use Rattle.guarantee.specs.Promise.{valueFound, jobsOf}
+use Rattle.guarantee.specs.Promise.{jobsOf}
 
 -- a survivor with the name k and the value v
 pub record Survivor (l : List ℕ) (n w : ℕ) (k : Name) (v : Value) : Type 0 where
@@ -78,6 +78,6 @@ same-jobs {l} {l′} same k =
     let tests = firstOf-same (survivesAs l′ n w k) (survivesAs l n w k) n (λ s h. survives-same same k s h) in
     rw (same .slots, same .width, tests) (values (firstOf (survivesAs l n w k) n))
   where
-    values : (f : Found) → valueFound l′ f ≡ valueFound l f
-    values (At s) = rw (same .slots, same .width) (ap some (same .values s))
+    values : (f : Found) → whereFound f (λ s. some (valueAt l′ (slotsOf l) (widthOf l) s)) none ≡ whereFound f (λ s. some (valueAt l (slotsOf l) (widthOf l) s)) none
+    values (At s) = ap some (same .values s)
     values Nothing = refl

@@ -22,8 +22,8 @@ use Rattle.table.specs.declared.find.Lookup.the-variants as look
 use Rattle.table.specs.Find.{lookup, room, freeAt}
 use Rattle.jobs.specs.Job.{Job, jobWords, badJob}
 use Rattle.jobs.specs.Laws.{job-named, job-words}
-use Rattle.job_new.specs.New.{newAt, newIn, newAbsent, newJob}
-use Rattle.job_new.specs.Stages.{newLooked, newOpen, newSized}
+use Rattle.job_new.specs.New.{newAt, newAbsent, newJob}
+use Rattle.job_new.specs.Stages.{newIn, newLooked, newOpen, newSized}
 use Rattle.crash.specs.Reference as ref
 use Rattle.crash.specs.Reference.{Jobs}
 use Rattle.crash.specs.New.{new-inv}

@@ -4,10 +4,8 @@ use mathlib.Core.Path.{_≡_}
 use mathlib.Core.Bool.{true}
 use mathlib.Core.Logic.{_≢_}
 use mathlib.Core.List.{List, List·Memᴰ}
-use mathlib.Core.Option.{Option, none, some}
-use Rattle.search.specs.First.{firstOf}
-use Rattle.search.specs.declared.Found.{Found}
-use Rattle.search.specs.declared.Found.the-variants.{At, Nothing}
+use mathlib.Core.Option.{none, some}
+use Rattle.search.specs.First.{firstOf, whereFound}
 use Rattle.reply.specs.declared.Check.the-variants.{Accepted}
 use Rattle.image.specs.Layout.{slotsOf, widthOf, clockOf, valueAt}
 use Rattle.image.specs.Name.{Name, nameAt}
@@ -18,16 +16,12 @@ use Rattle.format.specs.Format.{format}
 use Rattle.recovery.specs.declared.Recovery.the-variants.{Done}
 use Rattle.recovery.specs.Recover.{recover}
 use Rattle.recovery.specs.Completes.{AnyWords, call, Completes}
-use Rattle.crash.specs.Reference.{Value, Jobs, jobsAt}
+use Rattle.crash.specs.Reference.{Jobs, jobsAt}
 use Rattle.guarantee.specs.Trace.{Moment}
 
 -- ---- the jobs of an image: its survivors, by name
-abbrev pub valueFound : List ℕ → Found → Option Value
-valueFound l (At s) = some (valueAt l (slotsOf l) (widthOf l) s)
-valueFound l Nothing = none
-
 unfoldable pub jobsOf : List ℕ → Jobs
-jobsOf l k = valueFound l (firstOf (survivesAs l (slotsOf l) (widthOf l) k) (slotsOf l))
+jobsOf l k = whereFound (firstOf (survivesAs l (slotsOf l) (widthOf l) k) (slotsOf l)) (λ s. some (valueAt l (slotsOf l) (widthOf l) s)) none
 
 -- "just these: the same keys, each once, the same value words"
 pub record Holds (l : List ℕ) (jobs : Jobs) : Type 0 where

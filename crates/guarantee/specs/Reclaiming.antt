@@ -9,7 +9,7 @@ use borrow.Author.Tests.{eqb-true, eqb-false, eq-eqb, ne-eqb, le-leb, not-true}
 use native.Mathlib.Omega.{arith}
 use native.Mathlib.Decide.{decLt}
 use Rattle.search.specs.Bools.{never, refuted, not-is-true, and-left, and-right, and-both, or-left, or-right}
-use Rattle.search.specs.First.{found-first, found-nothing}
+use Rattle.search.specs.First.{found-first, found-nothing, whereFound}
 use Rattle.search.specs.declared.Found.{Found}
 use Rattle.search.specs.declared.Found.the-variants.{At, Nothing}
 use Rattle.image.specs.Layout.{payloadKind, header, contents, freeHeader}
@@ -17,7 +17,7 @@ use Rattle.image.specs.Line.{headerLine, storeLine}
 use Rattle.transient.specs.declared.sizes.Sizes.{Sizes}
 use Rattle.transient.specs.Layout.{retiredIn, setRetired, setPlace}
 use Rattle.transient.specs.Store.{Store, Table, store, tableOf}
-use Rattle.epochs.specs.Advance.{reclaimNext, contentsNext, due, dueFrom, reclaimed, reclaiming, reclaimFrom, passing}
+use Rattle.epochs.specs.Advance.{flushFrom, reclaimNext, contentsNext, due, dueFrom, reclaimed, reclaimFrom, passing}
 use Rattle.crash.specs.Table.{Put}
 use Rattle.crash.specs.Reference.{Jobs}
 use Rattle.crash.specs.Slots.{Slot, Swept}
@@ -150,7 +150,7 @@ module _ {sz : Sizes} {start : Jobs} {st : Store} {p : Plain} (y : Ready sz star
   reclaim-good q i = go (dueFrom sz (tableOf st) c q) refl
     where
       go : (f : Found) → dueFrom sz (tableOf st) c q ≡ f
-          → Owed sz start p (reclaiming f sz st c)
+          → Owed sz start p (whereFound f (reclaimed sz st) (flushFrom sz st c 0))
       go (At s) d =
           let f = found-first (dues q) (sz .n) d in
           let k = f .below in

@@ -30,8 +30,8 @@ use Rattle.jobs.specs.Job.{Job, jobWords, badJob}
 use Rattle.jobs.specs.Way.{wayIn}
 use Rattle.jobs.specs.Requires.{entered-wide, valued-entered, valued-shaped}
 use Rattle.jobs.specs.Laws.{way-valued, way-declined, way-open}
-use Rattle.job_new.specs.New.{newAt, newIn, newAbsent, newJob}
-use Rattle.job_new.specs.Stages.{newOpen, newSized}
+use Rattle.job_new.specs.New.{newAt, newAbsent, newJob}
+use Rattle.job_new.specs.Stages.{newIn, newOpen, newSized}
 use Rattle.job_new.specs.Requires.{ready-of, ready-entered, ready-placed, placed-value, placed-note, placed-head, placed-after, placed-uid}
 
 module _ (z : Sizes) (tb : Table) (e : ℕ) (j : Job) where

@@ -1,8 +1,7 @@
 -- 01: "New takes a free slot: ALLOC, label e, the next uid."
 use Prim.Native.Nat.{ℕ, _+_}
 use lib.Dec.{ltb}
-use Rattle.search.specs.declared.Found.{Found}
-use Rattle.search.specs.declared.Found.the-variants.{At, Nothing}
+use Rattle.search.specs.First.{whereFound}
 use Rattle.reply.specs.declared.Check.{Check}
 use Rattle.reply.specs.declared.Check.the-variants.{Accepted}
 use Rattle.reply.specs.declared.Refusal.the-variants.{JobExists, NoUid, Full}
@@ -23,14 +22,10 @@ newAt z tb e s j =
     (filledSlot z (tb .working) s (freshHeader e (nextUidOf (tb .transient))) (jobWords j))
     (setNextUid (taken z (tb .transient) e s) (nextUidOf (tb .transient) + 1))
 
--- 13: "table full: too few free slots, where one is needed"
-abbrev pub newIn : Found → Sizes → Table → ℕ → Job → Changed
-newIn (At s) z tb e j = newAt z tb e s j
-newIn Nothing z tb e j = refused Full tb
-
--- 12: "next uid above 4,000,000,000"
+-- 12: "next uid above 4,000,000,000"; 13: "table full: too few free slots, where one is needed"
 unfoldable pub newAbsent : Sizes → Table → ℕ → Job → Changed
-newAbsent z tb e j = declines (ltb mostNumber (nextUidOf (tb .transient))) NoUid tb (newIn (room z tb 2) z tb e j)
+newAbsent z tb e j =
+    declines (ltb mostNumber (nextUidOf (tb .transient))) NoUid tb (whereFound (room z tb 2) (λ s. newAt z tb e s j) (refused Full tb))
 
 -- 11: "a live job of that key"
 unfoldable pub newJob : Store → ℕ → Job → Outcome Check

@@ -5,7 +5,7 @@ use mathlib.Core.List.{List, _∷_}
 use lib.ListN.{length}
 use lib.Dec.{eqb}
 use Rattle.search.specs.declared.Found.{Found}
-use Rattle.search.specs.declared.Found.the-variants.{At, Nothing}
+use Rattle.search.specs.First.{whereFound}
 use Rattle.reply.specs.declared.Check.the-variants.{Accepted}
 use Rattle.reply.specs.declared.Refusal.the-variants.{Full}
 use Rattle.image.specs.declared.header.Header.{Header}
@@ -32,5 +32,5 @@ badJob z j = eqb (j .key) 0 || not (eqb (length (j .value)) (z .w - 1))
 
 -- 13 where no slot is found; else the slot f is filled, and the old one "retires .. in e"
 abbrev pub superseded : Found → Sizes → Table → ℕ → ℕ → Header → List ℕ → Changed
-superseded (At f) z tb e s h words = changed Accepted (filledSlot z (tb .working) f h words) (setRetired z (taken z (tb .transient) e f) s e)
-superseded Nothing z tb e s h words = refused Full tb
+superseded found z tb e s h words =
+    whereFound found (λ f. changed Accepted (filledSlot z (tb .working) f h words) (setRetired z (taken z (tb .transient) e f) s e)) (refused Full tb)

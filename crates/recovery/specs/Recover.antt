@@ -4,7 +4,7 @@ use mathlib.Core.Bool.{Bool, not, _&&_}
 use mathlib.Core.List.{List}
 use lib.ListN.{length}
 use lib.Dec.{eqb}
-use Rattle.search.specs.First.{firstOf}
+use Rattle.search.specs.First.{firstOf, whereFound}
 use Rattle.search.specs.Largest.{largest}
 use Rattle.search.specs.declared.Found.{Found}
 use Rattle.search.specs.declared.Found.the-variants.{At, Nothing}
@@ -27,14 +27,10 @@ antiAt l s = keptAnti (clockOf l) (header l s)
 unfoldable pub stale : List ℕ → ℕ → ℕ → Bool
 stale l n s = filledKind (header l s .kind) && (not (survivor l n s) && not (antiAt l s))
 
-abbrev pub orElse : Found → Found → Found
-orElse (At s) f = At s
-orElse Nothing f = f
-
 -- "frees lasting marks one at a time: first, in slot order, every filled slot that neither survives nor is a kept DELETE;
 -- then, in slot order, the kept DELETEs"
 unfoldable pub nextFreed : List ℕ → ℕ → Found
-nextFreed l n = orElse (firstOf (stale l n) n) (firstOf (antiAt l) n)
+nextFreed l n = whereFound (firstOf (stale l n) n) At (firstOf (antiAt l) n)
 
 -- "The next uid is one more than the largest surviving uid, 1 if none."
 unfoldable pub nextUid : List ℕ → ℕ → ℕ

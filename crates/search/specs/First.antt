@@ -16,6 +16,11 @@ unfoldable pub first : (ℕ → Bool) → ℕ → ℕ → ℕ
 first p i zero = i
 first p i (suc k) = cond (p i) i (first p (i + 1) k)
 
+-- by what a search found
+abbrev pub whereFound : {A : Type 0} → Found → (ℕ → A) → A → A
+whereFound (At s) at nothing = at s
+whereFound Nothing at nothing = nothing
+
 -- an index r below n as an answer
 abbrev pub found : ℕ → ℕ → Found
 found n r = cond (ltb r n) (At r) Nothing

@@ -3,12 +3,12 @@ use Prim.Native.Nat.{ℕ}
 use mathlib.Core.Bool.{Bool, not, cond, _&&_}
 use mathlib.Core.List.{List}
 use lib.Dec.{leb, ltb, eqb}
-use Rattle.search.specs.First.{firstOf}
+use Rattle.search.specs.First.{firstOf, whereFound}
 use Rattle.search.specs.Some.{anyOf}
 use Rattle.search.specs.Count.{count}
 use Rattle.search.specs.Ring.{firstRound}
 use Rattle.search.specs.declared.Found.{Found}
-use Rattle.search.specs.declared.Found.the-variants.{At, Nothing}
+use Rattle.search.specs.declared.Found.the-variants.{Nothing}
 use Rattle.image.specs.Layout.{filledKind, payloadKind, header}
 use Rattle.image.specs.Name.{Name, nameAt, sameName}
 use Rattle.transient.specs.declared.sizes.Sizes.{Sizes}
@@ -34,8 +34,7 @@ unfoldable pub liveSlot : Sizes → Table → Name → Found
 liveSlot z tb name = firstOf (liveAt z tb name) (z .n)
 
 abbrev pub lookedUp : Found → Lookup
-lookedUp (At s) = Live s
-lookedUp Nothing = Absent
+lookedUp f = whereFound f Live Absent
 
 -- refusal 9 first, then the live job
 unfoldable pub lookup : Sizes → Table → Name → ℕ → Lookup
