@@ -32,8 +32,8 @@ ready-of y e h = record { valued = y; uid-top = omega (arith, e) }
 pub ready-entered : {wk tr value : List ℕ} {z : Sizes} → Ready wk tr z value → Entered wk tr z
 ready-entered y = y .valued .entered
 
-pub ready-placed : {wk tr value : List ℕ} {z : Sizes} {s : ℕ} {g : Found} → Ready wk tr z value → g ≡ room z (table wk tr) 2 → g ≡ At s → Placed wk tr z s value
-ready-placed y c a = record { held = record { reached = room-reached 2 c a (y .valued .entered); words = y .valued .words }; uid-top = y .uid-top }
+pub ready-placed : {wk tr value : List ℕ} {z : Sizes} {s : ℕ} {g : Found} (k : ℕ) → Ready wk tr z value → g ≡ room z (table wk tr) k → g ≡ At s → Placed wk tr z s value
+ready-placed k y c a = record { held = record { reached = room-reached k c a (y .valued .entered); words = y .valued .words }; uid-top = y .uid-top }
 
 module _ {wk tr value : List ℕ} {z : Sizes} {s : ℕ} (y : Placed wk tr z s value) where
   pub placed-value : SlotValue wk z s value
