@@ -5,9 +5,9 @@ use mathlib.Core.List.{List}
 use lib.Dec.{leb, eqb}
 use Rattle.search.specs.Some.{anyOf, every}
 use Rattle.reply.specs.declared.Check.{Check}
-use Rattle.reply.specs.declared.Check.the-variants.{Accepted}
+use Rattle.reply.specs.declared.Check.the-variants.{Accepted, Refused}
 use Rattle.reply.specs.declared.Refusal.the-variants.{BadSizes, BadClock, BadSlot, Duplicate}
-use Rattle.reply.specs.Refusals.{refuse, andThen}
+use Rattle.reply.specs.Refusals.{refuse, byCheck}
 use Rattle.image.specs.declared.header.Header.{Header}
 use Rattle.image.specs.Layout.{mostNumber, filledKind, header, slotsOf, widthOf, clockOf, shapeOk, clockOk}
 use Rattle.image.specs.Name.{Name, nameAt, sameName, unnamed}
@@ -60,4 +60,4 @@ slotsCheck l n w =
     (refuse (anyOf (versionBelow (clockOf l) (header l)) n || anyOf (nameBelow l n w) n) Duplicate Accepted)
 
 unfoldable pub imageCheck : List ℕ → Check
-imageCheck l = andThen (headCheck l) (slotsCheck l (slotsOf l) (widthOf l))
+imageCheck l = byCheck (headCheck l) Refused (slotsCheck l (slotsOf l) (widthOf l))

@@ -5,29 +5,29 @@ use mathlib.Core.List.{List}
 use lib.ListN.{length}
 use lib.Dec.{leb, eqb}
 use Rattle.reply.specs.declared.Refusal.the-variants.{BadSizes}
-use Rattle.reply.specs.Refusals.{refuse, answered}
+use Rattle.reply.specs.Refusals.{refuse, byCheck, declinedNumber}
 use Rattle.image.specs.Layout.{slotsOf, clockOf}
 use Rattle.image.specs.Bytes.{wordsOf}
 use Rattle.survival.specs.Survivors.{survivorCount}
 use Rattle.acceptance.specs.Accept.{slotsCheck, imageCheck}
 
 unfoldable pub clockAnswer : List ℕ → ℕ
-clockAnswer l = answered (imageCheck l) (clockOf l)
+clockAnswer l = byCheck (imageCheck l) declinedNumber (clockOf l)
 
 unfoldable pub survivorsAnswer : List ℕ → ℕ
-survivorsAnswer l = answered (imageCheck l) (survivorCount l (slotsOf l))
+survivorsAnswer l = byCheck (imageCheck l) declinedNumber (survivorCount l (slotsOf l))
 
 -- the same past refusals 1 and 2
 unfoldable pub survivorsPast : List ℕ → ℕ → ℕ → ℕ
-survivorsPast l n w = answered (slotsCheck l n w) (survivorCount l n)
+survivorsPast l n w = byCheck (slotsCheck l n w) declinedNumber (survivorCount l n)
 
 -- "A byte count that fits no image is refused with 1": no whole words, or more than the largest image has
 unfoldable pub bytesOk : ℕ → Bool
 bytesOk len = eqb (len % 4) 0 && leb len 49164
 
 unfoldable pub clockOfBytes : List ℕ → ℕ
-clockOfBytes bytes = answered (refuse (not (bytesOk (length bytes))) BadSizes (imageCheck (wordsOf bytes))) (clockOf (wordsOf bytes))
+clockOfBytes bytes = byCheck (refuse (not (bytesOk (length bytes))) BadSizes (imageCheck (wordsOf bytes))) declinedNumber (clockOf (wordsOf bytes))
 
 unfoldable pub survivorsOfBytes : List ℕ → ℕ
 survivorsOfBytes bytes =
-    answered (refuse (not (bytesOk (length bytes))) BadSizes (imageCheck (wordsOf bytes))) (survivorCount (wordsOf bytes) (slotsOf (wordsOf bytes)))
+    byCheck (refuse (not (bytesOk (length bytes))) BadSizes (imageCheck (wordsOf bytes))) declinedNumber (survivorCount (wordsOf bytes) (slotsOf (wordsOf bytes)))

@@ -13,7 +13,7 @@ use Rattle.reply.specs.Refusals.{refuse, declinedNumber}
 use Rattle.image.specs.Layout.{mostNumber, payloadKind, header, clockOf, freeHeader}
 use Rattle.image.specs.Line.{headerLine, clockLine, heldHeader, heldContents, storeLine}
 use Rattle.transient.specs.declared.sizes.Sizes.{Sizes}
-use Rattle.transient.specs.Layout.{placePhase, placeSlot, openEpoch, retiredIn, isWaiting, setRetired, setPlace, emptied}
+use Rattle.transient.specs.Layout.{note, phaseAt, placeAt, openEpoch, retiredIn, isWaiting, setRetired, setPlace, emptied}
 use Rattle.transient.specs.Store.{Store, Table, store, tableOf, sizesOf, Outcome, outcome, afterCheck}
 use Rattle.transient.specs.Entry.{entryCheck}
 use Rattle.epochs.specs.declared.Place.{Place}
@@ -104,7 +104,7 @@ step z st c p =
 
 -- ---- the call
 unfoldable pub underway : List ℕ → Bool
-underway tr = leb reclaimNext (placePhase tr) && leb (placePhase tr) clockNext
+underway tr = leb reclaimNext (note phaseAt tr) && leb (note phaseAt tr) clockNext
 
 -- an operation open in clock − 1
 unfoldable pub openBelow : List ℕ → ℕ → ℕ → Bool
@@ -121,7 +121,7 @@ noted s = outcome (s .reply) (s .store .working) (s .store .persistent) (setPlac
 unfoldable pub advanceSized : Sizes → Store → Outcome Advance
 advanceSized z st =
     afterCheck (advanceCheck z (st .transient) (clockOf (st .working))) Declined st
-    (noted (step z st (clockOf (st .working)) (place (placePhase (st .transient)) (placeSlot (st .transient)))))
+    (noted (step z st (clockOf (st .working)) (place (note phaseAt (st .transient)) (note placeAt (st .transient)))))
 
 unfoldable pub advance : Store → Outcome Advance
 advance st = afterCheck (entryCheck st) Declined st (advanceSized (sizesOf (tableOf st)) st)

@@ -15,7 +15,7 @@ use Rattle.reply.specs.declared.Refusal.the-variants.{StillOpen, LastEpoch}
 use Rattle.reply.specs.Refusals.{refuse, not-refused}
 use Rattle.image.specs.Layout.{mostNumber, clockOf}
 use Rattle.transient.specs.declared.sizes.Sizes.{Sizes}
-use Rattle.transient.specs.Layout.{headWords, placePhase, placeSlot, setPlace}
+use Rattle.transient.specs.Layout.{headWords, note, phaseAt, placeAt, setPlace}
 use Rattle.transient.specs.Store.{store, table, sizesOf, Outcome, outcome}
 use Rattle.transient.specs.Entry.{entryCheck}
 use Rattle.transient.specs.Requires.{EnteredWith, notes-head, with-entered, entered-notes, entered-front}
@@ -28,7 +28,7 @@ use Rattle.epochs.specs.Moved.{notedPlace}
 use Rattle.epochs.specs.Left.{step-goes}
 
 -- ---- refusals 14 and 15
-module _ (tr : List ℕ) {phase : ℕ} (p : phase ≡ placePhase tr) where
+module _ (tr : List ℕ) {phase : ℕ} (p : phase ≡ note phaseAt tr) where
   pub underway-not : phase < reclaimNext → false ≡ underway tr
   unfolding underway
   underway-not h = rw (← p, lt-leb reclaimNext phase h)
@@ -75,11 +75,11 @@ place-head y = notes-head (y .advancing .shaped .notes)
 pub place-kept : {wk l tr : List ℕ} {z : Sizes} {c p : ℕ} (tr′ : List ℕ) → Going wk l tr z c p → length tr′ ≡ length tr → headWords ≤ length tr′
 place-kept tr′ y e = omega (arith, place-head y)
 
-pub place-going : {wk l tr : List ℕ} {z : Sizes} {c s : ℕ} → Going wk l tr z c (placeSlot tr) → s ≡ placeSlot tr → Going wk l tr z c s
+pub place-going : {wk l tr : List ℕ} {z : Sizes} {c s : ℕ} → Going wk l tr z c (note placeAt tr) → s ≡ note placeAt tr → Going wk l tr z c s
 place-going y e = rw e y
 
-module _ (z : Sizes) (wk l tr : List ℕ) (c : ℕ) {phase s : ℕ} (p : phase ≡ placePhase tr) (q : s ≡ placeSlot tr) where
-  pub place-narrow : {r : Advance} {wk′ l′ tr′ : List ℕ} {x : Place} → Going wk l tr z c (placeSlot tr) → stepped r wk′ l′ tr′ x ≡ step z (store wk l tr) c (place phase s) → x .slot < 2 ^ 32
+module _ (z : Sizes) (wk l tr : List ℕ) (c : ℕ) {phase s : ℕ} (p : phase ≡ note phaseAt tr) (q : s ≡ note placeAt tr) where
+  pub place-narrow : {r : Advance} {wk′ l′ tr′ : List ℕ} {x : Place} → Going wk l tr z c (note placeAt tr) → stepped r wk′ l′ tr′ x ≡ step z (store wk l tr) c (place phase s) → x .slot < 2 ^ 32
   place-narrow {x = x} y e =
       let b : x .slot < z .n = rw (← e) at (step-goes z (store wk l tr) c (place phase s) (rw q (y .within)) .within) in
       omega (arith, y .advancing .shaped .notes .slots-hi)
@@ -95,7 +95,7 @@ module _ (z : Sizes) (wk l tr : List ℕ) {c : ℕ} {k : Check} (ce : c ≡ cloc
   sized-refused a = rw (← ce, ← ke, a)
 
   module _ (a : k ≡ Accepted) where
-    pub sized-going : EnteredWith wk l tr z → Going wk l tr z c (placeSlot tr)
+    pub sized-going : EnteredWith wk l tr z → Going wk l tr z c (note placeAt tr)
     sized-going y =
         let d : c ≡ mostNumber → ⊥ = not-last z tr c (sym ke ∙ a) in
         record {

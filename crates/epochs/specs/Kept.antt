@@ -21,7 +21,7 @@ use Rattle.image.specs.Layout.{mostNumber, slotsOf, widthOf, clockOf, shapeOk, 
 use Rattle.image.specs.Line.{headerLine, contentsLine, clockLine, storeLine}
 use Rattle.image.specs.Laws.{length-store, front-past-header, front-past-contents, word-past-clock, clock-same}
 use Rattle.transient.specs.declared.sizes.Sizes.{Sizes}
-use Rattle.transient.specs.Layout.{notedSlots, lastTaken, nextUidOf, placeSlot, openEpoch, threadsOk}
+use Rattle.transient.specs.Layout.{note, slotsAt, lastAt, nextUidAt, placeAt, openEpoch, threadsOk}
 use Rattle.transient.specs.Laws.{FrontKept, front-same, retired-front, emptied-front, place-long, place-noted, place-last, place-uid, place-opens, slot-set}
 use Rattle.transient.specs.Store.{Store, store, tableOf, sizesOf, Outcome, afterCheck}
 use Rattle.transient.specs.Entry.{imagesFit, notesFit, sizesFit, openOk, opensOk, clocksFit, entryCheck}
@@ -184,16 +184,16 @@ module _ (st : Store) (x : Stepped) (ok : entryCheck st ≡ Accepted) (s : Stead
   threads-is = rw (long, s .working .slots)
 
   -- the place alone was written
-  slots-is : notedSlots tr ≡ notedSlots (st .transient)
+  slots-is : note slotsAt tr ≡ note slotsAt (st .transient)
   slots-is = place-noted (x .store .transient) (sizesOf (tableOf st)) _ _ ∙ s .notes .noted
 
-  last-is : lastTaken tr ≡ lastTaken (st .transient)
+  last-is : note lastAt tr ≡ note lastAt (st .transient)
   last-is = place-last (x .store .transient) (sizesOf (tableOf st)) _ _ ∙ s .notes .last
 
-  uid-is : nextUidOf tr ≡ nextUidOf (st .transient)
+  uid-is : note nextUidAt tr ≡ note nextUidAt (st .transient)
   uid-is = place-uid (x .store .transient) (sizesOf (tableOf st)) _ _ ∙ s .notes .uid
 
-  place-is : placeSlot tr ≡ x .place .slot
+  place-is : note placeAt tr ≡ x .place .slot
   place-is =
       let y = entry-with (st .working) (st .persistent) (st .transient) ok .entered .shaped .notes in
       slot-set (notes-after (s .notes .head .long) y) (x .place .phase) (x .place .slot)
@@ -212,10 +212,10 @@ module _ (st : Store) (x : Stepped) (ok : entryCheck st ≡ Accepted) (s : Stead
       let threaded = threadsOk (length (st .transient)) n in
       let rest = and-right images _ fit in
       let notes = and-right threaded _ rest in
-      let slots = eqb (notedSlots (st .transient)) n in
+      let slots = eqb (note slotsAt (st .transient)) n in
       let more = and-right slots _ notes in
-      let last = ltb (lastTaken (st .transient)) n in
-      let placed = ltb (placeSlot (st .transient)) n in
+      let last = ltb (note lastAt (st .transient)) n in
+      let placed = ltb (note placeAt (st .transient)) n in
       rw (images-same (s .working) (s .persistent), long, s .working .slots, slots-is, last-is, place-is, uid-is)
       (and-both (and-left images _ fit) (and-both (and-left threaded _ rest)
       (and-both (and-left slots _ notes) (and-both (and-left last _ more) (and-both (lt-ltb _ _ within) (and-right placed _ (and-right last _ more)))))))
@@ -270,7 +270,7 @@ module _ (k : ℕ) (st : Store) (q : Quiet (suc k) st) where
   advance-quiet = onward-from (next-kept st (q .entry) .clocked)
 
 -- the place is one of the table
-pub quiet-place : {ticks : ℕ} {st : Store} → Quiet ticks st → placeSlot (st .transient) < slotsOf (st .working)
+pub quiet-place : {ticks : ℕ} {st : Store} → Quiet ticks st → note placeAt (st .transient) < slotsOf (st .working)
 unfolding sizesOf
 quiet-place {st = st} q = entry-with (st .working) (st .persistent) (st .transient) (q .entry) .entered .place
 

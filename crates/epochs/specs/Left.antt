@@ -17,7 +17,7 @@ use Rattle.reply.specs.declared.Refusal.{Refusal}
 use Rattle.image.specs.Layout.{slotsOf, clockOf, freeHeader}
 use Rattle.image.specs.Laws.{front-past-header, word-past-clock}
 use Rattle.transient.specs.declared.sizes.Sizes.{Sizes}
-use Rattle.transient.specs.Layout.{placePhase, placeSlot}
+use Rattle.transient.specs.Layout.{note, phaseAt, placeAt}
 use Rattle.transient.specs.Laws.{retired-front, emptied-front, phase-set, slot-set}
 use Rattle.transient.specs.Store.{Store, Table, tableOf, sizesOf, Outcome}
 use Rattle.transient.specs.Requires.{Notes, notes-after}
@@ -156,12 +156,12 @@ step-goes z st c p h =
 -- ---- the same of an advance call
 pub record Moves (st : Store) (x : Outcome Advance) : Type 0 where
   pub slots : slotsOf (x .store .working) ≡ slotsOf (st .working)
-  pub within : placeSlot (st .transient) < slotsOf (st .working) → placeSlot (x .store .transient) < slotsOf (x .store .working)
+  pub within : note placeAt (st .transient) < slotsOf (st .working) → note placeAt (x .store .transient) < slotsOf (x .store .working)
   pub on : x .reply ≡ WentOn → linesLeft (tableOf (x .store)) < linesLeft (tableOf st)
-  pub tick : x .reply ≡ Ticked → (placePhase (x .store .transient) ≡ idle) × (1 ≤ linesLeft (tableOf st))
+  pub tick : x .reply ≡ Ticked → (note phaseAt (x .store .transient) ≡ idle) × (1 ≤ linesLeft (tableOf st))
 
 -- a step from the notes' place, noted
-noted-moves : (z : Sizes) (st : Store) (x : Stepped) → slotsOf (st .working) ≡ z .n → Notes (st .transient) z → placeSlot (st .transient) < z .n
+noted-moves : (z : Sizes) (st : Store) (x : Stepped) → slotsOf (st .working) ≡ z .n → Notes (st .transient) z → note placeAt (st .transient) < z .n
     → Goes st (z .n) (left (z .n) (notedPlace (st .transient))) x → Moves st (noted x)
 noted-moves z st x e m h g =
     let y : Notes (x .store .transient) z = notes-after (g .long) m in
@@ -204,7 +204,7 @@ unfolding budget
 budget-top tb = omega (arith, left-top (slotsOf (tb .working)) (notedPlace (tb .transient)))
 
 -- until there was a tick there is a line to come
-pub budget-low : (tb : Table) (k : ℕ) → placeSlot (tb .transient) < slotsOf (tb .working) → 1 ≤ budget tb (suc k)
+pub budget-low : (tb : Table) (k : ℕ) → note placeAt (tb .transient) < slotsOf (tb .working) → 1 ≤ budget tb (suc k)
 unfolding budget
 budget-low tb k h = omega (arith, left-low (slotsOf (tb .working)) (notedPlace (tb .transient)) h)
 

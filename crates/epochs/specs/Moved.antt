@@ -2,7 +2,7 @@
 use Prim.Native.Nat.{ℕ}
 use mathlib.Core.Bool.{Bool, true, false}
 use mathlib.Core.List.{List}
-use Rattle.transient.specs.Layout.{placePhase, placeSlot}
+use Rattle.transient.specs.Layout.{note, phaseAt, placeAt}
 use Rattle.epochs.specs.declared.Place.{Place}
 use Rattle.epochs.specs.declared.step.Moved.{Moved}
 use Rattle.epochs.specs.declared.Advance.{Advance}
@@ -17,4 +17,4 @@ abbrev pub moved : Moved → List ℕ → List ℕ → List ℕ → Stepped
 moved r wk l tr = stepped (replyOf (r .ticked)) wk l tr (r .place)
 
 abbrev pub notedPlace : List ℕ → Place
-notedPlace tr = place (placePhase tr) (placeSlot tr)
+notedPlace tr = place (note phaseAt tr) (note placeAt tr)

@@ -6,10 +6,10 @@ use mathlib.Core.List.{List}
 use lib.Dec.{ltb, eqb}
 use Rattle.search.specs.Some.{anyOf}
 use Rattle.reply.specs.declared.Check.{Check}
-use Rattle.reply.specs.declared.Check.the-variants.{Accepted}
+use Rattle.reply.specs.declared.Check.the-variants.{Accepted, Refused}
 use Rattle.reply.specs.declared.Refusal.{Refusal}
 use Rattle.reply.specs.declared.Refusal.the-variants.{StillOpen, LastEpoch}
-use Rattle.reply.specs.Refusals.{refuse, andThen, declinedNumber}
+use Rattle.reply.specs.Refusals.{refuse, byCheck, declinedNumber}
 use Rattle.image.specs.Layout.{mostNumber, slotsOf, clockOf}
 use Rattle.transient.specs.Layout.{openEpoch}
 use Rattle.transient.specs.Store.{Store, tableOf, sizesOf, Outcome, afterCheck}
@@ -26,7 +26,7 @@ anyOpen tr t = anyOf (λ thread. not (eqb (openEpoch tr thread) 0)) t
 
 unfoldable pub syncCheck : Store → Check
 syncCheck st =
-    andThen (entryCheck st)
+    byCheck (entryCheck st) Refused
     (refuse (anyOpen (st .transient) (sizesOf (tableOf st) .t)) StillOpen (refuse (ltb (mostNumber - 2) (clockOf (st .working))) LastEpoch Accepted))
 
 -- by an advance call's reply

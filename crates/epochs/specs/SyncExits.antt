@@ -17,7 +17,7 @@ use Rattle.reply.specs.declared.Refusal.the-variants.{StillOpen, LastEpoch}
 use Rattle.reply.specs.Refusals.{both-accepted}
 use Rattle.image.specs.Layout.{mostSlots, mostNumber, slotsOf, clockOf}
 use Rattle.transient.specs.declared.sizes.Sizes.{Sizes}
-use Rattle.transient.specs.Layout.{placeSlot}
+use Rattle.transient.specs.Layout.{note, placeAt}
 use Rattle.transient.specs.Store.{Store, store, table, sizesOf, Outcome, outcome}
 use Rattle.transient.specs.Entry.{entryCheck}
 use Rattle.transient.specs.Requires.{EnteredWith, entered-notes, entered-front}
@@ -66,7 +66,7 @@ pub record Longs (wk₀ l₀ tr₀ wk l tr : List ℕ) : Type 0 where
 pub record Syncing (wk₀ l₀ tr₀ : List ℕ) (ticks lines : ℕ) (wk l tr : List ℕ) : Type 0 where
   pub more : ℕ
   pub longs : Longs wk₀ l₀ tr₀ wk l tr
-  pub place : placeSlot tr < slotsOf wk
+  pub place : note placeAt tr < slotsOf wk
   pub enough : budget (table wk tr) ticks ≤ more
   pub few : lines + more ≤ 2 * mostLines mostSlots
   pub same : syncFrom (2 * mostLines (slotsOf wk₀)) 2 0 (store wk₀ l₀ tr₀) ≡ syncFrom more ticks lines (store wk l tr)

@@ -7,7 +7,7 @@ use transient::sizes::Sizes;
 ghost use mathlib.Core.Path.{_≡_};
 ghost use Prim.Native.Nat.{_≤_};
 ghost use lib.ListN.{length};
-ghost use Rattle.transient.specs.Layout.{headWords, placeSlot};
+ghost use Rattle.transient.specs.Layout.{headWords, note, placeAt};
 ghost use Rattle.transient.specs.Store.{store, outcome};
 ghost use Rattle.transient.specs.Requires.{Notes, EnteredWith};
 ghost use Rattle.epochs.specs.Advance.{step, underway, advanceCheck, noted, advanceSized, advance};
@@ -69,7 +69,7 @@ fn note_step(
     z: Sizes,
     c: u32,
 ) -> Advance
-    requires { ⌜ Going (now working) (now persistent) (now transient) z c (placeSlot (now transient)) ⌝ }
+    requires { ⌜ Going (now working) (now persistent) (now transient) z c (note placeAt (now transient)) ⌝ }
     ensures { λ r. ⌜ outcome r (now (working .exit)) (now (persistent .exit)) (now (transient .exit)) ≡ noted (step z (store (now (working .entry)) (now (persistent .entry)) (now (transient .entry))) c (notedPlace (now (transient .entry)))) ⌝ }
 {
     let place = Place {

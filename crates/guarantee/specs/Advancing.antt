@@ -14,7 +14,7 @@ use Rattle.reply.specs.declared.Refusal.the-variants.{StillOpen, LastEpoch}
 use Rattle.reply.specs.Refusals.{refuse, not-refused}
 use Rattle.image.specs.Layout.{mostNumber}
 use Rattle.transient.specs.declared.sizes.Sizes.{Sizes}
-use Rattle.transient.specs.Layout.{placePhase, placeSlot, openEpoch}
+use Rattle.transient.specs.Layout.{note, phaseAt, placeAt, openEpoch}
 use Rattle.transient.specs.Store.{Store, tableOf, sizesOf, Outcome, afterCheck}
 use Rattle.transient.specs.Entry.{entryCheck}
 use Rattle.transient.specs.Passed.{entry-with}
@@ -33,12 +33,12 @@ use Rattle.guarantee.specs.Flushing.{flush-good, head-good}
 use Rattle.guarantee.specs.Reclaiming.{reclaim-good}
 
 -- ---- one step, by the phase
-module _ {sz : Sizes} {start : Jobs} {st : Store} {p : Plain} (y : Ready sz start st p) (k : placeSlot (st .transient) < sz .n) where
+module _ {sz : Sizes} {start : Jobs} {st : Store} {p : Plain} (y : Ready sz start st p) (k : note placeAt (st .transient) < sz .n) where
   abbrev phase : ℕ
-  phase = placePhase (st .transient)
+  phase = note phaseAt (st .transient)
 
   abbrev slot : ℕ
-  slot = placeSlot (st .transient)
+  slot = note placeAt (st .transient)
 
   placed : {q : Place} → progress (sz .n) phase slot ≡ q → Reached sz start st p q
   placed e = rw e at (y .good .inv)
@@ -82,9 +82,9 @@ module _ {sz : Sizes} {start : Jobs} {st : Store} {p : Plain} (g : Good sz start
   Told a = Good sz start (a .store) (toldAdvance (a .reply) p)
 
   abbrev next : Outcome Advance
-  next = noted (step sz st (p .clock) (place (placePhase (st .transient)) (placeSlot (st .transient))))
+  next = noted (step sz st (p .clock) (place (note phaseAt (st .transient)) (note placeAt (st .transient))))
 
-  advance-sized-good : placeSlot (st .transient) < sz .n → Told (advanceSized sz st)
+  advance-sized-good : note placeAt (st .transient) < sz .n → Told (advanceSized sz st)
   unfolding advanceSized
   advance-sized-good h = rw (g .working .clock-is) (go (advanceCheck sz (st .transient) (p .clock)) refl)
     where
@@ -97,7 +97,7 @@ module _ {sz : Sizes} {start : Jobs} {st : Store} {p : Plain} (g : Good sz start
   unfolding advance
   advance-good = go (entryCheck st) refl
     where
-      place-below : entryCheck st ≡ Accepted → placeSlot (st .transient) < sz .n
+      place-below : entryCheck st ≡ Accepted → note placeAt (st .transient) < sz .n
       place-below a = rw (sizes-is g) at (entry-with (st .working) (st .persistent) (st .transient) a .entered .place)
 
       go : (k : Check) → entryCheck st ≡ k → Told (afterCheck k Declined st (advanceSized (sizesOf (tableOf st)) st))

@@ -12,7 +12,7 @@ use Rattle.reply.specs.declared.Refusal.{Refusal}
 use Rattle.image.specs.Layout.{slotsOf}
 use Rattle.image.specs.Name.{Name}
 use Rattle.transient.specs.declared.sizes.Sizes.{Sizes}
-use Rattle.transient.specs.Layout.{threadsOf, lastTaken, openEpoch}
+use Rattle.transient.specs.Layout.{threadsOf, note, lastAt, openEpoch}
 use Rattle.transient.specs.Store.{Store, Table, store, table, tableOf, sizesOf, Outcome, afterCheck}
 use Rattle.transient.specs.Entry.{entryCheck}
 use Rattle.transient.specs.Calls.{Changed, refused, declines, inStore, onStore}
@@ -64,7 +64,7 @@ module _ {sz : Sizes} {start : Jobs} {st : Store} {p : Plain} (g : Good sz start
       λ i. record { n = g .working .slots-is i; w = g .working .width-is i; t = t i }
 
   -- the notes name slots of the table
-  pub last-below : entryCheck st ≡ Accepted → lastTaken (st .transient) < sz .n
+  pub last-below : entryCheck st ≡ Accepted → note lastAt (st .transient) < sz .n
   last-below a = rw sizes-is at (entry-with (st .working) (st .persistent) (st .transient) a .entered .last)
 
 -- ---- what a call's part leaves is good

@@ -17,7 +17,7 @@ use Rattle.image.specs.Layout.{filledKind, payloadKind, header, contents, value
 use Rattle.image.specs.Name.{Name, keyOf, nameAt}
 use Rattle.image.specs.Laws.{name-contents, value-contents}
 use Rattle.transient.specs.declared.sizes.Sizes.{Sizes}
-use Rattle.transient.specs.Layout.{threadsOf, threadsOk, nextUidOf, placePhase, placeSlot, openEpoch, retiredIn, blank}
+use Rattle.transient.specs.Layout.{threadsOf, threadsOk, note, nextUidAt, phaseAt, placeAt, openEpoch, retiredIn, blank}
 use Rattle.transient.specs.Store.{Store, store, tableOf, sizesOf}
 use Rattle.transient.specs.Requires.{Notes}
 use Rattle.transient.specs.Laws.{threads-head, blank-length, blank-uid, blank-phase, blank-open, blank-retired}
@@ -45,10 +45,10 @@ Begins st = Good (sizesOf (tableOf st)) (jobsOf (st .persistent)) st (startOf st
 pub record Clean (l tr : List ℕ) : Type 0 where
   pub accepted : imageCheck l ≡ Accepted
   pub just : (s : ℕ) → s < slotsOf l → filledKind (header l s .kind) ≡ true → survivor l (slotsOf l) s ≡ true
-  pub uid-lo : 1 ≤ nextUidOf tr
-  pub uids : (s : ℕ) → s < slotsOf l → survivor l (slotsOf l) s ≡ true → header l s .uid < nextUidOf tr
+  pub uid-lo : 1 ≤ note nextUidAt tr
+  pub uids : (s : ℕ) → s < slotsOf l → survivor l (slotsOf l) s ≡ true → header l s .uid < note nextUidAt tr
   pub threads : threadsOk (length tr) (slotsOf l) ≡ true
-  pub idle : placePhase tr ≡ 0
+  pub idle : note phaseAt tr ≡ 0
   pub closed : (thread : ℕ) → openEpoch tr thread ≡ 0
   pub not-retired : (z : Sizes) (s : ℕ) → retiredIn z tr s ≡ 0
 
@@ -148,7 +148,7 @@ module _ {l tr : List ℕ} (z : Clean l tr) where
   record Old (s : ℕ) : Type 0 where
     payload : header l s .kind ≤ 2
     old : header l s .epoch + 2 ≤ c
-    uid-below : header l s .uid < nextUidOf tr
+    uid-below : header l s .uid < note nextUidAt tr
 
   old-at : (s : ℕ) → s < n → Old s
   old-at s h =
@@ -164,7 +164,7 @@ module _ {l tr : List ℕ} (z : Clean l tr) where
       ]
 
   -- each slot of the table is settled, and so is what lies beyond
-  settled-in : (s : ℕ) → s < n → Settled c (nextUidOf tr) (slotOf st sz c s)
+  settled-in : (s : ℕ) → s < n → Settled c (note nextUidAt tr) (slotOf st sz c s)
   settled-in s h =
       let o = old-at s h in
       record {
@@ -179,7 +179,7 @@ module _ {l tr : List ℕ} (z : Clean l tr) where
         not-retired = z .not-retired sz s;
       }
 
-  settled-out : Settled c (nextUidOf tr) noSlot
+  settled-out : Settled c (note nextUidAt tr) noSlot
   settled-out =
       record {
         same-head = record { kind-is = refl; epoch-is = refl; uid-is = refl };
@@ -192,7 +192,7 @@ module _ {l tr : List ℕ} (z : Clean l tr) where
         not-retired = refl;
       }
 
-  settled-at : (s : ℕ) → Settled c (nextUidOf tr) (slots s)
+  settled-at : (s : ℕ) → Settled c (note nextUidAt tr) (slots s)
   settled-at s = elim (decLt s n) [
     | yes h ↦ rw (is-at s h) (settled-in s h)
     | no h ↦ rw (view-out st sz c s (omega arith)) settled-out
@@ -248,7 +248,7 @@ module _ {l tr : List ℕ} (z : Clean l tr) where
   )
 
   -- no advance is underway
-  rests : progress (sz .n) (placePhase tr) (placeSlot tr) ≡ atRest
+  rests : progress (sz .n) (note phaseAt tr) (note placeAt tr) ≡ atRest
   unfolding progress
   rests = rw (z .idle)
 

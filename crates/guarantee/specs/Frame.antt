@@ -12,7 +12,7 @@ use Rattle.image.specs.declared.header.Header.{Header}
 use Rattle.image.specs.Name.{Name}
 use Rattle.transient.specs.declared.sizes.Sizes.{Sizes}
 use Rattle.transient.specs.Store.{Store, store}
-use Rattle.transient.specs.Layout.{nextUidOf, placePhase, placeSlot, openEpoch, isWaiting}
+use Rattle.transient.specs.Layout.{note, nextUidAt, phaseAt, placeAt, openEpoch, isWaiting}
 use Rattle.transient.specs.Requires.{notes-after}
 use Rattle.transient.specs.Laws.{HeadKept, waiting-again}
 use Rattle.epochs.specs.Advance.{reclaimNext, contentsNext, headerNext, clockNext, underway}
@@ -42,10 +42,10 @@ pub record Resting (p : Place) : Type 0 where
   pub flushed : p .flushed ≡ 0
   pub half : p .half ≡ 0
 
-pub progress-rest : (n : ℕ) (tr : List ℕ) → underway tr ≡ false → Resting (progress n (placePhase tr) (placeSlot tr))
+pub progress-rest : (n : ℕ) (tr : List ℕ) → underway tr ≡ false → Resting (progress n (note phaseAt tr) (note placeAt tr))
 unfolding underway progress
 progress-rest n tr u =
-    let k = placePhase tr in
+    let k = note phaseAt tr in
     let off : (j : ℕ) → reclaimNext ≤ j → j ≤ clockNext → eqb k j ≡ false =
     λ j a b. ne-eqb k j (λ q. never _ (and-both (le-leb reclaimNext k (omega arith)) (le-leb k clockNext (omega arith))) u) in
     let head = off headerNext (omega arith) (omega arith) in
@@ -118,9 +118,9 @@ module _ {sz : Sizes} {start : Jobs} {st : Store} {p : Plain} (g : Good sz start
   -- the state that a change leaves: other slots, a next uid, another row
   abbrev pub changedState : (ℕ → Slot) → ℕ → List Change → State
   changedState f u row =
-      record { slots = f; clock = p .clock; uid = u; place = progress (sz .n) (placePhase (st .transient)) (placeSlot (st .transient)); start = start; row = row }
+      record { slots = f; clock = p .clock; uid = u; place = progress (sz .n) (note phaseAt (st .transient)) (note placeAt (st .transient)); start = start; row = row }
 
-  pub good-change : {wk′ tr′ : List ℕ} {u : ℕ} {row row′ : List Change} → Image sz (p .clock) wk′ → HeadKept sz (st .transient) tr′ → nextUidOf tr′ ≡ u → row′ ≡ row
+  pub good-change : {wk′ tr′ : List ℕ} {u : ℕ} {row row′ : List Change} → Image sz (p .clock) wk′ → HeadKept sz (st .transient) tr′ → note nextUidAt tr′ ≡ u → row′ ≡ row
       → Inv (changedState (view (store wk′ (st .persistent) tr′) sz (p .clock)) u row) → Good sz start (store wk′ (st .persistent) tr′) (withRow row′)
   good-change i z a b v =
       record {

@@ -6,7 +6,7 @@ use mathlib.Core.List.{List, List·Memᴰ}
 use Rattle.image.specs.Layout.{mostNumber, slotsOf, widthOf, clockOf}
 use Rattle.image.specs.Requires.{Sized}
 use Rattle.transient.specs.declared.sizes.Sizes.{Sizes}
-use Rattle.transient.specs.Layout.{nextUidOf, placePhase, placeSlot, openEpoch}
+use Rattle.transient.specs.Layout.{note, nextUidAt, phaseAt, placeAt, openEpoch}
 use Rattle.transient.specs.Requires.{Notes}
 use Rattle.transient.specs.Store.{Store}
 use Rattle.crash.specs.Reference.{Jobs}
@@ -21,8 +21,8 @@ stateOf sz start st p =
     record {
       slots = view st sz (p .clock);
       clock = p .clock;
-      uid = nextUidOf (st .transient);
-      place = progress (sz .n) (placePhase (st .transient)) (placeSlot (st .transient));
+      uid = note nextUidAt (st .transient);
+      place = progress (sz .n) (note phaseAt (st .transient)) (note placeAt (st .transient));
       start = start;
       row = p .row;
     }

@@ -18,7 +18,7 @@ use Rattle.image.specs.Layout.{payloadKind, header}
 use Rattle.image.specs.Name.{Name, nameAt, same-name, name-same}
 use Rattle.image.specs.Laws.{name-contents}
 use Rattle.transient.specs.declared.sizes.Sizes.{Sizes}
-use Rattle.transient.specs.Layout.{lastTaken, retiredIn}
+use Rattle.transient.specs.Layout.{note, lastAt, retiredIn}
 use Rattle.transient.specs.Store.{Store, Table, tableOf}
 use Rattle.table.specs.declared.find.Lookup.{Lookup}
 use Rattle.table.specs.declared.find.Lookup.the-variants.{Later, Live, Absent}
@@ -67,13 +67,13 @@ module _ (sz : Sizes) (tb : Table) (name : Name) (e : ℕ) where
       go Nothing r = let z : _≡_ {A = ℕ} 0 1 = cc in absurd (omega arith)
 
 -- ---- room
-pub room-says : (sz : Sizes) (tb : Table) (k s : ℕ) → lastTaken (tb .transient) < sz .n → room sz tb k ≡ At s → (s < sz .n) × (freeAt (tb .working) s ≡ true)
+pub room-says : (sz : Sizes) (tb : Table) (k s : ℕ) → note lastAt (tb .transient) < sz .n → room sz tb k ≡ At s → (s < sz .n) × (freeAt (tb .working) s ≡ true)
 unfolding room
 room-says sz tb k s h e =
     let n = sz .n in
     let free = freeAt (tb .working) in
     ⊎-elim
-    (λ (y : leb k (count free n) ≡ true). let q : firstRound free n (lastTaken (tb .transient)) n ≡ At s = rw y at e in round-found free n (lastTaken (tb .transient)) n s h (omega arith) q)
+    (λ (y : leb k (count free n) ≡ true). let q : firstRound free n (note lastAt (tb .transient)) n ≡ At s = rw y at e in round-found free n (note lastAt (tb .transient)) n s h (omega arith) q)
     (λ (y : leb k (count free n) ≡ false). let q : Nothing ≡ At s = rw y at e in let z : _≡_ {A = ℕ} 0 1 = cc in absurd (omega arith))
     (cases (leb k (count free n)))
 

@@ -14,7 +14,7 @@ use Rattle.reply.specs.declared.Refusal.the-variants.{Newer, JobExists, NoUid, 
 use Rattle.image.specs.Layout.{mostNumber, freshHeader}
 use Rattle.image.specs.Name.{jobName}
 use Rattle.transient.specs.declared.sizes.Sizes.{Sizes}
-use Rattle.transient.specs.Layout.{lastTaken, nextUidOf, openEpoch}
+use Rattle.transient.specs.Layout.{note, lastAt, nextUidAt, openEpoch}
 use Rattle.transient.specs.Store.{Store, store, table}
 use Rattle.transient.specs.Calls.{Changed}
 use Rattle.table.specs.declared.find.Lookup.{Lookup}
@@ -43,12 +43,12 @@ module _ {sz : Sizes} {start : Jobs} {wk l tr : List ℕ} {p : Plain} (thread : 
   abbrev Good′ : Changed → Type 0
   Good′ = Fine sz start l p ref.made thread (jobName (j .key)) (j .value)
 
-  made-fine : (s : ℕ) → s < sz .n → freeAt wk s ≡ true → Missing sz (table wk tr) (jobName (j .key)) e → nextUidOf tr ≤ mostNumber → Good′ (newAt sz (table wk tr) e s j)
+  made-fine : (s : ℕ) → s < sz .n → freeAt wk s ≡ true → Missing sz (table wk tr) (jobName (j .key)) e → note nextUidAt tr ≤ mostNumber → Good′ (newAt sz (table wk tr) e s j)
   unfolding newAt
   made-fine s h f m u =
-      let a = filled-wrote (g .working .sized) h (freshHeader e (nextUidOf tr)) (jobWords j) (omega (arith, words)) in
-      let i = made-joins (g .notes) e s h (nextUidOf tr + 1) in
-      let up : nextUidOf tr + 1 ≡ suc (nextUidOf tr) = omega arith in
+      let a = filled-wrote (g .working .sized) h (freshHeader e (note nextUidAt tr)) (jobWords j) (omega (arith, words)) in
+      let i = made-joins (g .notes) e s h (note nextUidAt tr + 1) in
+      let up : note nextUidAt tr + 1 ≡ suc (note nextUidAt tr) = omega arith in
       record {
         good = good-change g (wrote-image a (g .working)) (i .head) (i .uid ∙ up) (row-epoch g ref.made thread (jobName (j .key)) (j .value) within)
             (new-inv (g .inv) record {
@@ -64,18 +64,18 @@ module _ {sz : Sizes} {start : Jobs} {wk l tr : List ℕ} {p : Plain} (thread : 
       }
 
   -- 12 and 13
-  absent-fine : lastTaken tr < sz .n → Missing sz (table wk tr) (jobName (j .key)) e → Good′ (newAbsent sz (table wk tr) e j)
+  absent-fine : note lastAt tr < sz .n → Missing sz (table wk tr) (jobName (j .key)) e → Good′ (newAbsent sz (table wk tr) e j)
   unfolding newAbsent
   absent-fine h m =
-      fine-declines g (ltb mostNumber (nextUidOf tr)) NoUid _
-      (λ q. go (ltb-false mostNumber (nextUidOf tr) q) (room sz (table wk tr) 2) refl)
+      fine-declines g (ltb mostNumber (note nextUidAt tr)) NoUid _
+      (λ q. go (ltb-false mostNumber (note nextUidAt tr) q) (room sz (table wk tr) 2) refl)
     where
-      go : nextUidOf tr ≤ mostNumber → (f : Found) → room sz (table wk tr) 2 ≡ f → Good′ (newIn f sz (table wk tr) e j)
+      go : note nextUidAt tr ≤ mostNumber → (f : Found) → room sz (table wk tr) 2 ≡ f → Good′ (newIn f sz (table wk tr) e j)
       go u (At s) q = let b = room-says sz (table wk tr) 2 s h q in made-fine s (b .0) (b .1) m u
       go u Nothing q = fine-refused g Full
 
   -- 9 and 11
-  pub opened-fine : lastTaken tr < sz .n → Good′ (newOpen sz (table wk tr) j e)
+  pub opened-fine : note lastAt tr < sz .n → Good′ (newOpen sz (table wk tr) j e)
   unfolding newOpen
   opened-fine h = go (lookup sz (table wk tr) (jobName (j .key)) e) refl
     where

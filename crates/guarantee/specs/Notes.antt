@@ -6,7 +6,7 @@ use mathlib.Core.Bool.{true}
 use mathlib.Core.Logic.{_≢_}
 use mathlib.Core.List.{List}
 use Rattle.transient.specs.declared.sizes.Sizes.{Sizes}
-use Rattle.transient.specs.Layout.{nextUidOf, retiredIn, isWaiting, setNextUid, setRetired, setWaiting}
+use Rattle.transient.specs.Layout.{note, nextUidAt, retiredIn, isWaiting, setNextUid, setRetired, setWaiting}
 use Rattle.transient.specs.Requires.{Notes, notes-after}
 use Rattle.transient.specs.Laws.{HeadKept, SlotKept, head-then, slot-then, last-head, last-slots, last-uid, uid-head, uid-slots, retired-front, waiting-front, uid-set, retired-same, retired-waiting, retired-aside, waiting-joined, waiting-stays, waiting-retired, waiting-aside}
 use Rattle.table.specs.Fill.{joined, taken}
@@ -17,10 +17,10 @@ pub record Joined (sz : Sizes) (tr tr′ : List ℕ) (e s r u : ℕ) : Type 0 wh
   pub retired : retiredIn sz tr′ s ≡ r
   pub joins : isWaiting sz tr′ e s ≡ true
   pub stays : (d : ℕ) → isWaiting sz tr d s ≡ true → isWaiting sz tr′ d s ≡ true
-  pub uid : nextUidOf tr′ ≡ u
+  pub uid : note nextUidAt tr′ ≡ u
 
 module _ {tr : List ℕ} {sz : Sizes} (y : Notes tr sz) (e s : ℕ) (h : s < sz .n) where
-  pub waiting-joins : Joined sz tr (setWaiting sz tr e s) e s (retiredIn sz tr s) (nextUidOf tr)
+  pub waiting-joins : Joined sz tr (setWaiting sz tr e s) e s (retiredIn sz tr s) (note nextUidAt tr)
   waiting-joins =
       record {
         head = waiting-front tr sz e s .head;
@@ -31,7 +31,7 @@ module _ {tr : List ℕ} {sz : Sizes} (y : Notes tr sz) (e s : ℕ) (h : s < sz 
         uid = waiting-front tr sz e s .uid;
       }
 
-  pub joined-joins : Joined sz tr (joined sz tr e s) e s 0 (nextUidOf tr)
+  pub joined-joins : Joined sz tr (joined sz tr e s) e s 0 (note nextUidAt tr)
   unfolding joined
   joined-joins =
       let tr′ = setRetired sz tr s 0 in
@@ -47,7 +47,7 @@ module _ {tr : List ℕ} {sz : Sizes} (y : Notes tr sz) (e s : ℕ) (h : s < sz 
       }
 
 module _ {tr : List ℕ} {sz : Sizes} (y : Notes tr sz) (e s : ℕ) (h : s < sz .n) where
-  pub taken-joins : Joined sz tr (taken sz tr e s) e s 0 (nextUidOf tr)
+  pub taken-joins : Joined sz tr (taken sz tr e s) e s 0 (note nextUidAt tr)
   unfolding taken
   taken-joins =
       let a = last-head tr sz s in

@@ -14,7 +14,7 @@ use Rattle.image.specs.Layout.{header, contents, keyAt, freeHeader, antiHeader}
 use Rattle.image.specs.Laws.{key-contents}
 use Rattle.image.specs.Name.{jobName, nameOf}
 use Rattle.transient.specs.declared.sizes.Sizes.{Sizes}
-use Rattle.transient.specs.Layout.{lastTaken, openEpoch, retiredIn}
+use Rattle.transient.specs.Layout.{note, lastAt, openEpoch, retiredIn}
 use Rattle.transient.specs.Store.{Store, store, table}
 use Rattle.table.specs.declared.find.Lookup.{Lookup}
 use Rattle.table.specs.declared.find.Lookup.the-variants as look
@@ -118,11 +118,11 @@ module _ {sz : Sizes} {start : Jobs} {wk l tr : List ℕ} {p : Plain} (thread ke
     older : header wk s .epoch < e
     older = let q : header wk s .epoch ≤ e = rw at-slot at (no-later-of g newest s (lives .payload .0) (lives .named)) in omega arith
 
-    updated-fine : lastTaken tr < sz .n → (v : Value) → length v + 1 ≡ sz .w → Fine sz start l p ref.altered thread (jobName key) v (updated sz (table wk tr) e s (job key v))
+    updated-fine : note lastAt tr < sz .n → (v : Value) → length v + 1 ≡ sz .w → Fine sz start l p ref.altered thread (jobName key) v (updated sz (table wk tr) e s (job key v))
     unfolding updated
     updated-fine h v long = super-fine thread key s (steps.updates v) g within begun long lives older 2 h
 
-    covered-fine : lastTaken tr < sz .n → Fine sz start l p ref.dropped thread (jobName key) [] (covered sz (table wk tr) e s key)
+    covered-fine : note lastAt tr < sz .n → Fine sz start l p ref.dropped thread (jobName key) [] (covered sz (table wk tr) e s key)
     unfolding covered
     covered-fine h =
         let zeros : Value = replicate (sz .w - 1) 0 in
@@ -131,7 +131,7 @@ module _ {sz : Sizes} {start : Jobs} {wk l tr : List ℕ} {p : Plain} (thread ke
 
 -- ---- by what the look-up finds: 9 and 10
 module _ {sz : Sizes} {start : Jobs} {wk l tr : List ℕ} {p : Plain} (thread : ℕ) (g : Good sz start (store wk l tr) p)
-    (within : thread < sz .t) (begun : openEpoch tr thread ≢ 0) (last : lastTaken tr < sz .n) where
+    (within : thread < sz .t) (begun : openEpoch tr thread ≢ 0) (last : note lastAt tr < sz .n) where
   abbrev ep : ℕ
   ep = openEpoch tr thread
 

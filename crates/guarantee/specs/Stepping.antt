@@ -13,7 +13,7 @@ use Rattle.search.specs.Bools.{flag, refuted, and-left, and-right}
 use Rattle.image.specs.declared.header.Header.{Header}
 use Rattle.image.specs.Layout.{mostNumber}
 use Rattle.transient.specs.declared.sizes.Sizes.{Sizes}
-use Rattle.transient.specs.Layout.{nextUidOf, openEpoch, retiredIn, isWaiting, setRetired, setPlace}
+use Rattle.transient.specs.Layout.{note, nextUidAt, openEpoch, retiredIn, isWaiting, setRetired, setPlace}
 use Rattle.transient.specs.Store.{Store, store}
 use Rattle.transient.specs.Requires.{Notes, notes-after}
 use Rattle.transient.specs.Laws.{SlotKept, slot-then, place-long, place-opens, place-slots, place-uid, retired-front, retired-same, retired-waiting, retired-aside, phase-set, slot-set}
@@ -86,7 +86,7 @@ module _ (n s : ℕ) (h : s < n) where
 pub record Noted (sz : Sizes) (tr tr′ : List ℕ) (s r : ℕ) : Type 0 where
   pub long : length tr′ ≡ length tr
   pub opens : (thread : ℕ) → thread < sz .t → openEpoch tr′ thread ≡ openEpoch tr thread
-  pub uid : nextUidOf tr′ ≡ nextUidOf tr
+  pub uid : note nextUidAt tr′ ≡ note nextUidAt tr
   pub others : (m : ℕ) → m ≢ s → SlotKept sz tr tr′ m
   pub waiting : (d : ℕ) → isWaiting sz tr′ d s ≡ isWaiting sz tr d s
   pub retired : retiredIn sz tr′ s ≡ r

@@ -14,7 +14,7 @@ use Rattle.image.specs.declared.header.Header.{Header}
 use Rattle.image.specs.Layout.{headerOf, header}
 use Rattle.image.specs.Name.{Name, jobName}
 use Rattle.transient.specs.declared.sizes.Sizes.{Sizes}
-use Rattle.transient.specs.Layout.{lastTaken, nextUidOf, openEpoch, isWaiting, setRetired}
+use Rattle.transient.specs.Layout.{note, lastAt, nextUidAt, openEpoch, isWaiting, setRetired}
 use Rattle.transient.specs.Store.{Store, store, table}
 use Rattle.transient.specs.Requires.{Notes, notes-after}
 use Rattle.transient.specs.Laws.{HeadKept, head-then, retired-front, retired-same, retired-waiting, retired-aside}
@@ -90,7 +90,7 @@ module _ {sz : Sizes} {start : Jobs} {st : Store} {p : Plain} (g : Good sz start
   pub over-head : HeadKept sz (st .transient) (setRetired sz tr′ s e)
   over-head = head-then (j .head) (retired-front tr′ sz s e .head)
 
-  pub over-uid : nextUidOf (setRetired sz tr′ s e) ≡ u
+  pub over-uid : note nextUidAt (setRetired sz tr′ s e) ≡ u
   over-uid = retired-front tr′ sz s e .uid ∙ j .uid
 
 -- the step with the uid and the name as the call has them
@@ -129,7 +129,7 @@ module _ {sz : Sizes} {start : Jobs} {wk l tr : List ℕ} {p : Plain} {kind : �
       (over-as (g .inv) uid-is (sym (lives .named)) o (record { operation = operation-of g thread within begun; payload = lives .payload; current = lives .current })
       (change-joins g a j h) empty (omega (arith, epoch-is, older)) (over-put g a j h (lives .below) apart))
 
-  pub super-fine : (k : ℕ) → lastTaken tr < sz .n
+  pub super-fine : (k : ℕ) → note lastAt tr < sz .n
       → Fine sz start l p act thread (jobName key) u (superseded (room sz (table wk tr) k) sz (table wk tr) e s (headerOf kind e (header wk s .uid)) (key ∷ v))
   super-fine k h = go (room sz (table wk tr) k) refl
     where

@@ -9,7 +9,7 @@ use Rattle.image.specs.Line.{clockLine, storeLine}
 use Rattle.image.specs.Requires.{sized-after}
 use Rattle.image.specs.Laws.{length-store, clock-same, word-past-clock, header-past-clock, contents-past-clock}
 use Rattle.transient.specs.declared.sizes.Sizes.{Sizes}
-use Rattle.transient.specs.Layout.{nextUidOf, openEpoch, retiredIn, isWaiting, setPlace, emptied}
+use Rattle.transient.specs.Layout.{note, nextUidAt, openEpoch, retiredIn, isWaiting, setPlace, emptied}
 use Rattle.transient.specs.Store.{Store, store}
 use Rattle.transient.specs.Requires.{Notes, notes-after}
 use Rattle.transient.specs.Laws.{SlotKept, waiting-again, place-long, place-opens, place-slots, place-uid, emptied-front, emptied-none, emptied-next, emptied-retired, phase-set, slot-set}
@@ -79,7 +79,7 @@ module _ {sz : Sizes} {start : Jobs} {st : Store} {p : Plain} (y : Ready sz star
   open-kept : (thread : ℕ) → thread < sz .t → openEpoch notes′ thread ≡ openEpoch (st .transient) thread
   open-kept u h = place-opens list sz idle 0 u ∙ emptied-front (st .transient) sz (c - 1) .head .opens u h
 
-  uid-same : nextUidOf notes′ ≡ nextUidOf (st .transient)
+  uid-same : note nextUidAt notes′ ≡ note nextUidAt (st .transient)
   uid-same = place-uid list sz idle 0 ∙ emptied-front (st .transient) sz (c - 1) .uid
 
   -- the table: the lists move on

@@ -14,7 +14,7 @@ use Rattle.image.specs.declared.header.Header.{Header}
 use Rattle.image.specs.Layout.{mostNumber, freshHeader}
 use Rattle.image.specs.Name.{jobName}
 use Rattle.transient.specs.declared.sizes.Sizes.{Sizes}
-use Rattle.transient.specs.Layout.{nextUidOf, setNextUid}
+use Rattle.transient.specs.Layout.{note, nextUidAt, setNextUid}
 use Rattle.transient.specs.Store.{Table, store, table, sizesOf, outcome}
 use Rattle.transient.specs.Entry.{entryCheck}
 use Rattle.transient.specs.Calls.{Changed, changed, refused}
@@ -35,7 +35,7 @@ use Rattle.job_new.specs.Stages.{newIn, newOpen, newSized}
 use Rattle.job_new.specs.Requires.{ready-of, ready-entered, ready-placed, placed-value, placed-note, placed-head, placed-after, placed-uid}
 
 module _ (z : Sizes) (tb : Table) (e : ℕ) (j : Job) where
-  pub new-done : (s : ℕ) {u : ℕ} {h : Header} {wk a b : List ℕ} → u ≡ nextUidOf (tb .transient) → h ≡ freshHeader e u
+  pub new-done : (s : ℕ) {u : ℕ} {h : Header} {wk a b : List ℕ} → u ≡ note nextUidAt (tb .transient) → h ≡ freshHeader e u
       → wk ≡ filledSlot z (tb .working) s h (jobWords j) → a ≡ taken z (tb .transient) e s → b ≡ setNextUid a (u + 1) → changed Accepted wk b ≡ newAt z tb e s j
   unfolding newAt
   new-done s p q r x y = rw (r, q, y, x, p)
@@ -49,7 +49,7 @@ module _ (z : Sizes) (tb : Table) (e : ℕ) (j : Job) where
     new-placed a p = rw (← fr, a) p
 
   -- 12
-  module _ {u : ℕ} (ue : u ≡ nextUidOf (tb .transient)) where
+  module _ {u : ℕ} (ue : u ≡ note nextUidAt (tb .transient)) where
     pub new-uid : mostNumber < u → refused NoUid tb ≡ newAbsent z tb e j
     unfolding newAbsent
     new-uid h = rw (← ue, lt-ltb mostNumber u h)

@@ -7,7 +7,7 @@ use Rattle.reply.specs.declared.Check.the-variants.{Accepted}
 use Rattle.reply.specs.declared.Refusal.the-variants.{JobExists, NoUid, Full}
 use Rattle.image.specs.Layout.{mostNumber, freshHeader}
 use Rattle.transient.specs.declared.sizes.Sizes.{Sizes}
-use Rattle.transient.specs.Layout.{nextUidOf, setNextUid}
+use Rattle.transient.specs.Layout.{note, nextUidAt, setNextUid}
 use Rattle.transient.specs.Store.{Store, Table, Outcome}
 use Rattle.transient.specs.Calls.{Changed, changed, refused, declines}
 use Rattle.table.specs.Find.{room}
@@ -19,13 +19,13 @@ use Rattle.jobs.specs.Way.{onJob}
 unfoldable pub newAt : Sizes → Table → ℕ → ℕ → Job → Changed
 newAt z tb e s j =
     changed Accepted
-    (filledSlot z (tb .working) s (freshHeader e (nextUidOf (tb .transient))) (jobWords j))
-    (setNextUid (taken z (tb .transient) e s) (nextUidOf (tb .transient) + 1))
+    (filledSlot z (tb .working) s (freshHeader e (note nextUidAt (tb .transient))) (jobWords j))
+    (setNextUid (taken z (tb .transient) e s) (note nextUidAt (tb .transient) + 1))
 
 -- 12: "next uid above 4,000,000,000"; 13: "table full: too few free slots, where one is needed"
 unfoldable pub newAbsent : Sizes → Table → ℕ → Job → Changed
 newAbsent z tb e j =
-    declines (ltb mostNumber (nextUidOf (tb .transient))) NoUid tb (whereFound (room z tb 2) (λ s. newAt z tb e s j) (refused Full tb))
+    declines (ltb mostNumber (note nextUidAt (tb .transient))) NoUid tb (whereFound (room z tb 2) (λ s. newAt z tb e s j) (refused Full tb))
 
 -- 11: "a live job of that key"
 unfoldable pub newJob : Store → ℕ → Job → Outcome Check

@@ -10,7 +10,7 @@ use Rattle.search.specs.declared.Found.{Found}
 use Rattle.search.specs.declared.Found.the-variants.{At}
 use Rattle.image.specs.Layout.{mostNumber}
 use Rattle.transient.specs.declared.sizes.Sizes.{Sizes}
-use Rattle.transient.specs.Layout.{headWords, nextUidOf}
+use Rattle.transient.specs.Layout.{headWords, note, nextUidAt}
 use Rattle.transient.specs.Store.{table}
 use Rattle.transient.specs.Requires.{NoteOf, Entered, entered-head}
 use Rattle.table.specs.Find.{room}
@@ -19,14 +19,14 @@ use Rattle.jobs.specs.Requires.{Valued, Held, reached-note, held-value, room-re
 
 pub record Ready (wk tr : List ℕ) (z : Sizes) (value : List ℕ) : Type 0 where
   pub valued : Valued wk tr z value
-  pub uid-top : nextUidOf tr ≤ mostNumber
+  pub uid-top : note nextUidAt tr ≤ mostNumber
 
 pub record Placed (wk tr : List ℕ) (z : Sizes) (s : ℕ) (value : List ℕ) : Type 0 where
   pub held : Held wk tr z s value
-  pub uid-top : nextUidOf tr ≤ mostNumber
+  pub uid-top : note nextUidAt tr ≤ mostNumber
 
 -- ---- how they are made
-pub ready-of : {wk tr value : List ℕ} {z : Sizes} {u : ℕ} → Valued wk tr z value → u ≡ nextUidOf tr → u ≤ mostNumber → Ready wk tr z value
+pub ready-of : {wk tr value : List ℕ} {z : Sizes} {u : ℕ} → Valued wk tr z value → u ≡ note nextUidAt tr → u ≤ mostNumber → Ready wk tr z value
 ready-of y e h = record { valued = y; uid-top = omega (arith, e) }
 
 pub ready-entered : {wk tr value : List ℕ} {z : Sizes} → Ready wk tr z value → Entered wk tr z
@@ -48,5 +48,5 @@ module _ {wk tr value : List ℕ} {z : Sizes} {s : ℕ} (y : Placed wk tr z s va
   pub placed-after : (tr′ : List ℕ) → length tr′ ≡ length tr → headWords ≤ length tr′
   placed-after tr′ e = rw e placed-head
 
-  pub placed-uid : {u : ℕ} → u ≡ nextUidOf tr → Fits w32 (u + 1)
+  pub placed-uid : {u : ℕ} → u ≡ note nextUidAt tr → Fits w32 (u + 1)
   placed-uid e = omega (arith, y .uid-top, e)

@@ -10,6 +10,7 @@ use Rattle.search.specs.declared.Found.the-variants.{At, Nothing}
 use Rattle.reply.specs.declared.Check.{Check}
 use Rattle.reply.specs.declared.Check.the-variants.{Accepted, Refused}
 use Rattle.reply.specs.declared.Refusal.the-variants.{NoThread, BadArgument}
+use Rattle.reply.specs.Refusals.{byCheck}
 use Rattle.image.specs.Layout.{slotsOf, widthOf}
 use Rattle.image.specs.Name.{jobName}
 use Rattle.image.specs.Requires.{Slot, slot}
@@ -23,7 +24,7 @@ use Rattle.table.specs.Laws.{live-below, lookup-below}
 use Rattle.table.specs.declared.find.Lookup.{Lookup}
 use Rattle.table.specs.declared.find.Lookup.the-variants.{Later, Live, Absent}
 use Rattle.job_read.specs.declared.Reading.the-variants.{Shown, Declined}
-use Rattle.job_read.specs.Read.{readLooked, readOpen, readSized, readEntered, readJob}
+use Rattle.job_read.specs.Read.{readLooked, readOpen, readSized, readJob}
 
 module _ (z : Sizes) (tb : Table) (key s : ℕ) where
   found-below : (f : Found) → liveSlot z tb (jobName key) ≡ f → readLooked (lookedUp f) ≡ Shown s → s < z .n
@@ -50,6 +51,6 @@ pub read-slot : (wk l tr : List ℕ) (thread key : ℕ) {s : ℕ} → readJob (s
 unfolding readJob sizesOf
 read-slot wk l tr thread key {s} e = go (entryCheck (store wk l tr)) refl e
   where
-    go : (k : Check) → entryCheck (store wk l tr) ≡ k → readEntered k (readSized thread key (sizesOf (table wk tr)) (table wk tr)) ≡ Shown s → Slot wk (slotsOf wk) (widthOf wk) s
+    go : (k : Check) → entryCheck (store wk l tr) ≡ k → byCheck k Declined (readSized thread key (sizesOf (table wk tr)) (table wk tr)) ≡ Shown s → Slot wk (slotsOf wk) (widthOf wk) s
     go (Refused r) c q = let x : _≡_ {A = ℕ} 0 1 = cc in absurd (omega arith)
     go Accepted c q = slot (entry-with wk l tr c .entered .shaped .working) (sized-below (sizesOf (table wk tr)) (table wk tr) key s thread q)

@@ -4,10 +4,8 @@ use Prim.Native.Nat.{ℕ, _+_}
 use mathlib.Core.Bool.{cond}
 use mathlib.Core.List.{List, []}
 use lib.Dec.{leb, eqb}
-use Rattle.reply.specs.declared.Check.{Check}
-use Rattle.reply.specs.declared.Check.the-variants.{Accepted, Refused}
 use Rattle.reply.specs.declared.Refusal.the-variants.{NoThread, BadArgument, Newer, NoJob}
-use Rattle.reply.specs.Refusals.{refusalNumber, declinedNumber}
+use Rattle.reply.specs.Refusals.{refusalNumber, declinedNumber, byCheck}
 use Rattle.image.specs.Layout.{contentsAt, valueAt, slotsOf, widthOf}
 use Rattle.image.specs.Name.{jobName}
 use Rattle.transient.specs.declared.sizes.Sizes.{Sizes}
@@ -37,12 +35,8 @@ readSized thread key z tb =
     (cond (eqb key 0) (Declined BadArgument)
     (readOpen z tb key (openEpoch (tb .transient) thread)))
 
-abbrev pub readEntered : Check → Reading → Reading
-readEntered Accepted r = r
-readEntered (Refused r) next = Declined r
-
 unfoldable pub readJob : Store → ℕ → ℕ → Reading
-readJob st thread key = readEntered (entryCheck st) (readSized thread key (sizesOf (tableOf st)) (tableOf st))
+readJob st thread key = byCheck (entryCheck st) Declined (readSized thread key (sizesOf (tableOf st)) (tableOf st))
 
 -- "the value's V words come back .. empty on refusal"
 abbrev pub shownValue : Reading → List ℕ → List ℕ

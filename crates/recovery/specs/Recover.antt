@@ -9,8 +9,9 @@ use Rattle.search.specs.Largest.{largest}
 use Rattle.search.specs.declared.Found.{Found}
 use Rattle.search.specs.declared.Found.the-variants.{At, Nothing}
 use Rattle.reply.specs.declared.Check.{Check}
+use Rattle.reply.specs.declared.Check.the-variants.{Refused}
 use Rattle.reply.specs.declared.Refusal.the-variants.{BadSizes}
-use Rattle.reply.specs.Refusals.{refuse, andThen, declinedNumber}
+use Rattle.reply.specs.Refusals.{refuse, byCheck, declinedNumber}
 use Rattle.image.specs.Layout.{filledKind, header, slotsOf, widthOf, clockOf, freeHeader}
 use Rattle.image.specs.Line.{headerLine, storeLine}
 use Rattle.transient.specs.Store.{Store, store, Outcome, outcome, afterCheck}
@@ -42,9 +43,9 @@ lengthsFit working l transient = eqb working (length l) && threadsOk transient (
 
 unfoldable pub recoverCheck : Store → Check
 recoverCheck st =
-    andThen
+    byCheck
     (refuse (not (lengthsFit (length (st .working)) (st .persistent) (length (st .transient)))) BadSizes (headCheck (st .persistent)))
-    (slotsCheck (st .persistent) (slotsOf (st .persistent)) (widthOf (st .persistent)))
+    Refused (slotsCheck (st .persistent) (slotsOf (st .persistent)) (widthOf (st .persistent)))
 
 -- "frees the next such mark, leaves working and notes alone and replies went on. The call that finds none to free replies done;
 -- only there does working become a copy and are the notes set."

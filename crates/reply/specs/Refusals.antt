@@ -35,15 +35,10 @@ declinedNumber r = 4294967296 + refusalNumber r
 abbrev pub refuse : Bool → Refusal → Check → Check
 refuse b r rest = cond b (Refused r) rest
 
--- one check, and where it accepts the next
-abbrev pub andThen : Check → Check → Check
-andThen Accepted next = next
-andThen (Refused r) next = Refused r
-
--- a number where the check accepts
-abbrev pub answered : Check → ℕ → ℕ
-answered Accepted k = k
-answered (Refused r) k = declinedNumber r
+-- by a check's verdict: what a refusal gives, or what follows
+abbrev pub byCheck : {A : Type 0} → Check → (Refusal → A) → A → A
+byCheck Accepted declined next = next
+byCheck (Refused r) declined next = declined r
 
 -- an accepted check went past each condition
 pub not-refused : (b : Bool) (r : Refusal) (next : Check) → refuse b r next ≡ Accepted → (b ≡ false) × (next ≡ Accepted)
@@ -51,6 +46,6 @@ not-refused true r next e = let z : _≡_ {A = ℕ} 0 1 = cc in absurd (omega ar
 not-refused false r next e = (refl, e)
 
 -- two checks in a row both accepted
-pub both-accepted : (a b : Check) → andThen a b ≡ Accepted → (a ≡ Accepted) × (b ≡ Accepted)
+pub both-accepted : (a b : Check) → byCheck a Refused b ≡ Accepted → (a ≡ Accepted) × (b ≡ Accepted)
 both-accepted Accepted b e = (refl, e)
 both-accepted (Refused r) b e = let z : _≡_ {A = ℕ} 0 1 = cc in absurd (omega arith)

@@ -26,7 +26,7 @@ use Rattle.image.specs.Requires.{Slot, slot-of, slot-header, slot-after}
 use Rattle.image.specs.Laws.{area-top}
 use Rattle.image.specs.Storing.{storing-end}
 use Rattle.transient.specs.declared.sizes.Sizes.{Sizes}
-use Rattle.transient.specs.Layout.{lastTaken, retiredIn, setLast, setRetired, setWaiting}
+use Rattle.transient.specs.Layout.{note, lastAt, retiredIn, setLast, setRetired, setWaiting}
 use Rattle.transient.specs.Store.{Table, table}
 use Rattle.transient.specs.Requires.{Entered, note-after, note-head, note-slot, shaped-slot, slot-note, slot-working, slot-head, entered-head}
 use Rattle.transient.specs.Clearing.{emptying-start, emptying-next}
@@ -190,7 +190,7 @@ module _ (wk : List ℕ) (s : ℕ) {h : Header} {f : Bool} (at : h ≡ header wk
   unfolding freeAt
   free-yes t = rw (← at, ← fl, t)
 
-module _ {wk tr : List ℕ} {z : Sizes} {last : ℕ} (y : Entered wk tr z) (la : last ≡ lastTaken tr) where
+module _ {wk tr : List ℕ} {z : Sizes} {last : ℕ} (y : Entered wk tr z) (la : last ≡ note lastAt tr) where
   pub rooms-all : RingStart wk (z .n) last (z .n)
   rooms-all =
       record {
@@ -201,7 +201,7 @@ module _ {wk tr : List ℕ} {z : Sizes} {last : ℕ} (y : Entered wk tr z) (la :
       }
 
   module _ {f : Found} (e : f ≡ firstRound (freeAt wk) (z .n) last (z .n)) where
-    round-is : f ≡ firstRound (freeAt wk) (z .n) (lastTaken tr) (z .n)
+    round-is : f ≡ firstRound (freeAt wk) (z .n) (note lastAt tr) (z .n)
     round-is = rw la at e
 
     none-free : (k : ℕ) → f ≡ Nothing → Nothing ≡ room z (table wk tr) k
@@ -214,7 +214,7 @@ module _ {wk tr : List ℕ} {z : Sizes} {last : ℕ} (y : Entered wk tr z) (la :
 
     one-free : {s : ℕ} → f ≡ At s → f ≡ room z (table wk tr) 1
     unfolding room
-    one-free {s} a = rw (round-one (freeAt wk) (z .n) (lastTaken tr) s (y .last) (sym round-is ∙ a)) round-is
+    one-free {s} a = rw (round-one (freeAt wk) (z .n) (note lastAt tr) s (y .last) (sym round-is ∙ a)) round-is
 
     pub room-one : f ≡ room z (table wk tr) 1
     room-one = go f refl
@@ -228,7 +228,7 @@ module _ {wk tr : List ℕ} {z : Sizes} {last : ℕ} (y : Entered wk tr z) (la :
 
     module _ {s : ℕ} (a : f ≡ At s) where
       free-s : (s < z .n) × (freeAt wk s ≡ true)
-      free-s = round-found (freeAt wk) (z .n) (lastTaken tr) (z .n) s (y .last) (omega arith) (sym round-is ∙ a)
+      free-s = round-found (freeAt wk) (z .n) (note lastAt tr) (z .n) s (y .last) (omega arith) (sym round-is ∙ a)
 
       pub rooms-rest : RingStart wk (z .n) s (z .n - 1)
       rooms-rest = record { long = rooms-all .long; slots-hi = rooms-all .slots-hi; from = free-s .0; few = omega arith }

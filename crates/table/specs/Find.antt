@@ -12,7 +12,7 @@ use Rattle.search.specs.declared.Found.the-variants.{Nothing}
 use Rattle.image.specs.Layout.{filledKind, payloadKind, header}
 use Rattle.image.specs.Name.{Name, nameAt, sameName}
 use Rattle.transient.specs.declared.sizes.Sizes.{Sizes}
-use Rattle.transient.specs.Layout.{lastTaken, retiredIn}
+use Rattle.transient.specs.Layout.{note, lastAt, retiredIn}
 use Rattle.transient.specs.Store.{Table}
 use Rattle.table.specs.declared.find.Lookup.{Lookup}
 use Rattle.table.specs.declared.find.Lookup.the-variants.{Later, Live, Absent}
@@ -48,4 +48,4 @@ freeAt wk s = not (filledKind (header wk s .kind))
 -- "New and set need two free slots when they take one, delete needs one"
 unfoldable pub room : Sizes → Table → ℕ → Found
 room z tb k =
-    cond (leb k (count (freeAt (tb .working)) (z .n))) (firstRound (freeAt (tb .working)) (z .n) (lastTaken (tb .transient)) (z .n)) Nothing
+    cond (leb k (count (freeAt (tb .working)) (z .n))) (firstRound (freeAt (tb .working)) (z .n) (note lastAt (tb .transient)) (z .n)) Nothing

@@ -21,7 +21,7 @@ use Rattle.image.specs.Name.{Name}
 use Rattle.image.specs.Requires.{Slot, slot-header, slot-after}
 use Rattle.image.specs.Laws.{length-store, header-same, header-other, contents-past-header, front-past-header, contents-same, contents-other, header-past-contents, front-past-contents}
 use Rattle.transient.specs.declared.sizes.Sizes.{Sizes}
-use Rattle.transient.specs.Layout.{lastTaken}
+use Rattle.transient.specs.Layout.{note, lastAt}
 use Rattle.transient.specs.Store.{Table}
 use Rattle.table.specs.declared.find.Lookup.the-variants.{Later, Live}
 use Rattle.table.specs.Find.{newer, liveAt, liveSlot, lookedUp, lookup, freeAt, room}
@@ -76,13 +76,13 @@ module _ (z : Sizes) (l : List ℕ) (s : ℕ) (value : List ℕ) where
 
 -- ---- a slot found is one of the table
 module _ (z : Sizes) (tb : Table) where
-  pub room-below : (k s : ℕ) → lastTaken (tb .transient) < z .n → room z tb k ≡ At s → s < z .n
+  pub room-below : (k s : ℕ) → note lastAt (tb .transient) < z .n → room z tb k ≡ At s → s < z .n
   unfolding room
   room-below k s h e =
       ⊎-elim
       (λ (t : leb k (count (freeAt (tb .working)) (z .n)) ≡ true).
-      let q : firstRound (freeAt (tb .working)) (z .n) (lastTaken (tb .transient)) (z .n) ≡ At s = rw t at e in
-      round-found (freeAt (tb .working)) (z .n) (lastTaken (tb .transient)) (z .n) s h (omega arith) q .0)
+      let q : firstRound (freeAt (tb .working)) (z .n) (note lastAt (tb .transient)) (z .n) ≡ At s = rw t at e in
+      round-found (freeAt (tb .working)) (z .n) (note lastAt (tb .transient)) (z .n) s h (omega arith) q .0)
       (λ (u : leb k (count (freeAt (tb .working)) (z .n)) ≡ false). let q : Nothing ≡ At s = rw u at e in let y : _≡_ {A = ℕ} 0 1 = cc in absurd (omega arith))
       (cases (leb k (count (freeAt (tb .working)) (z .n))))
 

@@ -3,9 +3,9 @@ use Prim.Native.Nat.{ℕ}
 use mathlib.Core.Bool.{Bool, cond}
 use mathlib.Core.List.{List}
 use Rattle.reply.specs.declared.Check.{Check}
-use Rattle.reply.specs.declared.Check.the-variants.{Accepted, Refused}
+use Rattle.reply.specs.declared.Check.the-variants.{Refused}
 use Rattle.reply.specs.declared.Refusal.{Refusal}
-use Rattle.reply.specs.Refusals.{refusalNumber}
+use Rattle.reply.specs.Refusals.{refusalNumber, byCheck}
 use Rattle.transient.specs.declared.sizes.Sizes.{Sizes}
 use Rattle.transient.specs.Store.{Store, Table, table, tableOf, sizesOf, Outcome, outcome, afterCheck}
 use Rattle.transient.specs.Entry.{entryCheck}
@@ -34,5 +34,4 @@ onStore st call = afterCheck (entryCheck st) Refused st (inStore st (call (sizes
 
 -- the reply's number: 0 for accepted
 abbrev pub checkNumber : Check → ℕ
-checkNumber Accepted = 0
-checkNumber (Refused r) = refusalNumber r
+checkNumber k = byCheck k refusalNumber 0

@@ -10,7 +10,7 @@ use Rattle.reply.specs.declared.Check.the-variants.{Accepted}
 use Rattle.reply.specs.declared.Refusal.the-variants.{BadSizes, BadClock}
 use Rattle.reply.specs.Refusals.{refuse}
 use Rattle.image.specs.Layout.{mostNumber, slotsOf, widthOf, clockOf, shapeOk, clockOk}
-use Rattle.transient.specs.Layout.{threadsOk, notedSlots, lastTaken, nextUidOf, placeSlot, openEpoch}
+use Rattle.transient.specs.Layout.{threadsOk, note, slotsAt, lastAt, nextUidAt, placeAt, openEpoch}
 use Rattle.transient.specs.Store.{Store, tableOf, sizesOf}
 
 -- 1: "N, W or T outside its range; image length wrong; the images or notes differ in sizes;"
@@ -22,7 +22,7 @@ uidOk u = leb 1 u && leb u (mostNumber + 1)
 
 -- "a note naming a slot not below N, or a next uid outside 1 to 4,000,000,001"
 unfoldable pub notesFit : List ℕ → ℕ → Bool
-notesFit tr n = eqb (notedSlots tr) n && (ltb (lastTaken tr) n && (ltb (placeSlot tr) n && uidOk (nextUidOf tr)))
+notesFit tr n = eqb (note slotsAt tr) n && (ltb (note lastAt tr) n && (ltb (note placeAt tr) n && uidOk (note nextUidAt tr)))
 
 unfoldable pub sizesFit : List ℕ → List ℕ → List ℕ → Bool
 sizesFit wk l tr = imagesFit wk l && (threadsOk (length tr) (slotsOf wk) && notesFit tr (slotsOf wk))

@@ -19,7 +19,7 @@ use Rattle.image.specs.Laws.{shaped}
 use Rattle.image.specs.Storing.{storings}
 use Rattle.transient.specs.declared.sizes.Sizes.{Sizes}
 use Rattle.transient.specs.Store.{store, table, sizesOf}
-use Rattle.transient.specs.Layout.{slotsAt, lastAt, nextUidAt, phaseAt, placeAt, headWords, openAt, retiredAt, listBase, waitingAt, threadsOf, threadsOk, notedSlots, lastTaken, nextUidOf, placeSlot, openEpoch, isWaiting, setLast, setNextUid, setOpen, setRetired, setWaiting, setPlace, emptied, blank}
+use Rattle.transient.specs.Layout.{slotsAt, lastAt, nextUidAt, phaseAt, placeAt, headWords, openAt, retiredAt, listBase, waitingAt, threadsOf, threadsOk, note, openEpoch, isWaiting, setLast, setNextUid, setOpen, setRetired, setWaiting, setPlace, emptied, blank}
 use Rattle.transient.specs.Entry.{imagesFit, uidOk, notesFit, sizesFit, openOk, opensOk, clocksFit, entryCheck}
 use Rattle.transient.specs.Requires.{Based, ThreadRoom, Notes, Sizable, Paired, sizesAlike, Threads, Fitting, requires-laws}
 use Rattle.transient.specs.Laws.{threads-head}
@@ -158,24 +158,24 @@ module _ (wk l : List ℕ) {s : Bool} (sh : s ≡ shapeOk wk) where
         let t : shapeOk wk ≡ true = sym sh ∙ st in
         e ∙ same-test (sizesAlike wk l) (imagesFit wk l) (λ h. alike-fit wk l t (shape-same wk l t long h) h) (λ h. fit-alike wk l h)
 
-module _ (tr : List ℕ) (n : ℕ) {d : ℕ} (sl : d ≡ notedSlots tr) where
+module _ (tr : List ℕ) (n : ℕ) {d : ℕ} (sl : d ≡ note slotsAt tr) where
   pub notes-slots : (d ≡ n → ⊥) → false ≡ notesFit tr n
   unfolding notesFit
   notes-slots h = rw (← sl, ne-eqb d n h)
 
-  module _ {a : ℕ} (same : d ≡ n) (la : a ≡ lastTaken tr) where
+  module _ {a : ℕ} (same : d ≡ n) (la : a ≡ note lastAt tr) where
     pub notes-last : n ≤ a → false ≡ notesFit tr n
     unfolding notesFit
-    notes-last h = rw (← sl, eq-eqb d n same, le-ltb (lastTaken tr) n (omega arith))
+    notes-last h = rw (← sl, eq-eqb d n same, le-ltb (note lastAt tr) n (omega arith))
 
-    module _ {b : ℕ} (h : a < n) (pl : b ≡ placeSlot tr) where
+    module _ {b : ℕ} (h : a < n) (pl : b ≡ note placeAt tr) where
       pub notes-place : n ≤ b → false ≡ notesFit tr n
       unfolding notesFit
-      notes-place k = rw (← sl, eq-eqb d n same, lt-ltb (lastTaken tr) n (omega arith), le-ltb (placeSlot tr) n (omega arith))
+      notes-place k = rw (← sl, eq-eqb d n same, lt-ltb (note lastAt tr) n (omega arith), le-ltb (note placeAt tr) n (omega arith))
 
-      pub notes-uid : {u : ℕ} {r : Bool} → b < n → u ≡ nextUidOf tr → r ≡ uidOk u → r ≡ notesFit tr n
+      pub notes-uid : {u : ℕ} {r : Bool} → b < n → u ≡ note nextUidAt tr → r ≡ uidOk u → r ≡ notesFit tr n
       unfolding notesFit
-      notes-uid k e q = rw (← sl, eq-eqb d n same, lt-ltb (lastTaken tr) n (omega arith), lt-ltb (placeSlot tr) n (omega arith), ← e) q
+      notes-uid k e q = rw (← sl, eq-eqb d n same, lt-ltb (note lastAt tr) n (omega arith), lt-ltb (note placeAt tr) n (omega arith), ← e) q
 
 module _ (u : ℕ) where
   pub uid-low : u < 1 → false ≡ uidOk u

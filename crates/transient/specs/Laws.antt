@@ -13,7 +13,7 @@ use native.Mathlib.Decide.{ℕ-discrete, decLt}
 use Rattle.search.specs.Bools.{cases, and-left}
 use Rattle.image.specs.Laws.{length-stored, stored-outside, stored-inside}
 use Rattle.transient.specs.declared.sizes.Sizes.{Sizes}
-use Rattle.transient.specs.Layout.{slotsAt, lastAt, nextUidAt, phaseAt, placeAt, headWords, openAt, retiredAt, listBase, waitingAt, threadsOf, threadsOk, notedSlots, lastTaken, nextUidOf, placePhase, placeSlot, openEpoch, retiredIn, isWaiting, setLast, setNextUid, setOpen, setRetired, setWaiting, setPlace, emptied, blank}
+use Rattle.transient.specs.Layout.{slotsAt, lastAt, nextUidAt, phaseAt, placeAt, headWords, openAt, retiredAt, listBase, waitingAt, threadsOf, threadsOk, note, openEpoch, retiredIn, isWaiting, setLast, setNextUid, setOpen, setRetired, setWaiting, setPlace, emptied, blank}
 use Rattle.transient.specs.Requires.{Notes}
 
 -- ---- the two lists
@@ -117,15 +117,15 @@ module _ (tr : List ℕ) where
 pub record HeadKept (z : Sizes) (tr tr′ : List ℕ) : Type 0 where
   pub long : length tr′ ≡ length tr
   pub opens : (thread : ℕ) → thread < z .t → openEpoch tr′ thread ≡ openEpoch tr thread
-  pub phase : placePhase tr′ ≡ placePhase tr
-  pub slot : placeSlot tr′ ≡ placeSlot tr
+  pub phase : note phaseAt tr′ ≡ note phaseAt tr
+  pub slot : note placeAt tr′ ≡ note placeAt tr
 
 -- the whole head
 pub record FrontKept (z : Sizes) (tr tr′ : List ℕ) : Type 0 where
   pub head : HeadKept z tr tr′
-  pub noted : notedSlots tr′ ≡ notedSlots tr
-  pub last : lastTaken tr′ ≡ lastTaken tr
-  pub uid : nextUidOf tr′ ≡ nextUidOf tr
+  pub noted : note slotsAt tr′ ≡ note slotsAt tr
+  pub last : note lastAt tr′ ≡ note lastAt tr
+  pub uid : note nextUidAt tr′ ≡ note nextUidAt tr
 
 pub front-same : {z : Sizes} {tr : List ℕ} → FrontKept z tr tr
 front-same = record { head = record { long = refl; opens = λ u h. refl; phase = refl; slot = refl }; noted = refl; last = refl; uid = refl }
@@ -163,7 +163,7 @@ module _ {tr tr′ : List ℕ} {at k : ℕ} (o : Only tr tr′ at k) where
   slot-kept z h m =
       record { retired = o .words (retiredAt z m) (inr (omega arith)); waiting = λ d. flag-same z tr tr′ d m (o .words (waitingAt z d m) (inr (omega arith))) }
 
-  uid-kept : (at + k ≤ nextUidAt) ⊎ (nextUidAt < at) → nextUidOf tr′ ≡ nextUidOf tr
+  uid-kept : (at + k ≤ nextUidAt) ⊎ (nextUidAt < at) → note nextUidAt tr′ ≡ note nextUidAt tr
   uid-kept c = o .words nextUidAt (⊎-elim (λ q. inr q) (λ q. inl q) c)
 
 -- ---- .. after each writer
@@ -175,7 +175,7 @@ module _ (tr : List ℕ) (z : Sizes) where
     pub last-slots : (m : ℕ) → SlotKept z tr (setLast tr s) m
     last-slots = slot-kept (last-only tr s) z (omega arith)
 
-    pub last-uid : nextUidOf (setLast tr s) ≡ nextUidOf tr
+    pub last-uid : note nextUidAt (setLast tr s) ≡ note nextUidAt tr
     last-uid = uid-kept (last-only tr s) (inl (omega arith))
 
   module _ (u : ℕ) where
@@ -192,13 +192,13 @@ module _ (tr : List ℕ) (z : Sizes) where
     pub open-long : length (setOpen tr thread e) ≡ length tr
     open-long = open-only tr thread e .long
 
-    pub open-phase : placePhase (setOpen tr thread e) ≡ placePhase tr
+    pub open-phase : note phaseAt (setOpen tr thread e) ≡ note phaseAt tr
     open-phase = open-only tr thread e .words phaseAt (inl (omega arith))
 
-    pub open-slot : placeSlot (setOpen tr thread e) ≡ placeSlot tr
+    pub open-slot : note placeAt (setOpen tr thread e) ≡ note placeAt tr
     open-slot = open-only tr thread e .words placeAt (inl (omega arith))
 
-    pub open-uid : nextUidOf (setOpen tr thread e) ≡ nextUidOf tr
+    pub open-uid : note nextUidAt (setOpen tr thread e) ≡ note nextUidAt tr
     open-uid = uid-kept (open-only tr thread e) (inr (omega arith))
 
   module _ (phase slot : ℕ) where
@@ -211,13 +211,13 @@ module _ (tr : List ℕ) (z : Sizes) where
     pub place-slots : (m : ℕ) → SlotKept z tr (setPlace tr phase slot) m
     place-slots = slot-kept (place-only tr phase slot) z (omega arith)
 
-    pub place-noted : notedSlots (setPlace tr phase slot) ≡ notedSlots tr
+    pub place-noted : note slotsAt (setPlace tr phase slot) ≡ note slotsAt tr
     place-noted = place-only tr phase slot .words slotsAt (inl (omega arith))
 
-    pub place-last : lastTaken (setPlace tr phase slot) ≡ lastTaken tr
+    pub place-last : note lastAt (setPlace tr phase slot) ≡ note lastAt tr
     place-last = place-only tr phase slot .words lastAt (inl (omega arith))
 
-    pub place-uid : nextUidOf (setPlace tr phase slot) ≡ nextUidOf tr
+    pub place-uid : note nextUidAt (setPlace tr phase slot) ≡ note nextUidAt tr
     place-uid = uid-kept (place-only tr phase slot) (inr (omega arith))
 
   module _ (s e : ℕ) where
@@ -256,13 +256,13 @@ module _ (len n u : ℕ) where
       ∙ getD-set-other (replicate len 0) slotsAt j n 0 (λ q. omega arith)
       ∙ zeros-at len j
 
-  pub blank-uid : headWords ≤ len → nextUidOf (blank len n u) ≡ u
+  pub blank-uid : headWords ≤ len → note nextUidAt (blank len n u) ≡ u
   unfolding blank
   blank-uid h =
       getD-set-same (set (set (replicate len 0) slotsAt n) lastAt (n - 1)) nextUidAt u 0
       (simp (length-set, length-replicate) (omega arith))
 
-  pub blank-phase : placePhase (blank len n u) ≡ 0
+  pub blank-phase : note phaseAt (blank len n u) ≡ 0
   blank-phase = blank-zeros phaseAt (omega arith)
 
   pub blank-open : (thread : ℕ) → openEpoch (blank len n u) thread ≡ 0
@@ -273,15 +273,15 @@ module _ (len n u : ℕ) where
 
 -- ---- each writer's own note
 module _ {tr : List ℕ} {z : Sizes} (y : Notes tr z) where
-  pub uid-set : (u : ℕ) → nextUidOf (setNextUid tr u) ≡ u
+  pub uid-set : (u : ℕ) → note nextUidAt (setNextUid tr u) ≡ u
   unfolding setNextUid
   uid-set u = getD-set-same tr nextUidAt u 0 (omega (arith, y .long))
 
-  pub phase-set : (phase slot : ℕ) → placePhase (setPlace tr phase slot) ≡ phase
+  pub phase-set : (phase slot : ℕ) → note phaseAt (setPlace tr phase slot) ≡ phase
   unfolding setPlace
   phase-set phase slot = getD-set-other (set tr phaseAt phase) placeAt phaseAt slot 0 (λ q. omega arith) ∙ getD-set-same tr phaseAt phase 0 (omega (arith, y .long))
 
-  pub slot-set : (phase slot : ℕ) → placeSlot (setPlace tr phase slot) ≡ slot
+  pub slot-set : (phase slot : ℕ) → note placeAt (setPlace tr phase slot) ≡ slot
   unfolding setPlace
   slot-set phase slot = getD-set-same (set tr phaseAt phase) placeAt slot 0 (omega (arith, length-set tr phaseAt phase, y .long))
 

@@ -53,22 +53,10 @@ unfoldable pub threadsOk : ℕ → ℕ → Bool
 threadsOk len n = leb 1 (threadsOf len n) && leb (threadsOf len n) 16
 
 -- ---- readers
--- the N that the notes are for
-abbrev pub notedSlots : List ℕ → ℕ
-notedSlots tr = getD tr slotsAt 0
-
-abbrev pub lastTaken : List ℕ → ℕ
-lastTaken tr = getD tr lastAt 0
-
-abbrev pub nextUidOf : List ℕ → ℕ
-nextUidOf tr = getD tr nextUidAt 0
-
--- "the place an advance has reached": phase and slot
-abbrev pub placePhase : List ℕ → ℕ
-placePhase tr = getD tr phaseAt 0
-
-abbrev pub placeSlot : List ℕ → ℕ
-placeSlot tr = getD tr placeAt 0
+-- a word of the head: the N that the notes are for, "the last slot taken; the next uid; the place an advance has reached", which
+-- is its phase and its slot
+abbrev pub note : ℕ → List ℕ → ℕ
+note at tr = getD tr at 0
 
 -- a thread's open epoch, 0 for none
 abbrev pub openEpoch : List ℕ → ℕ → ℕ

@@ -17,7 +17,7 @@ use Rattle.image.specs.Layout.{mostNumber, slotsOf, widthOf, clockOf, shapeOk, 
 use Rattle.image.specs.Requires.{Sized}
 use Rattle.image.specs.Laws.{shaped}
 use Rattle.transient.specs.declared.sizes.Sizes.{Sizes}
-use Rattle.transient.specs.Layout.{threadsOf, threadsOk, notedSlots, lastTaken, nextUidOf, placeSlot}
+use Rattle.transient.specs.Layout.{threadsOf, threadsOk, note, slotsAt, lastAt, nextUidAt, placeAt}
 use Rattle.transient.specs.Store.{Table, store, table, sizesOf, outcome}
 use Rattle.transient.specs.Entry.{imagesFit, uidOk, notesFit, sizesFit, clocksFit, entryCheck}
 use Rattle.transient.specs.Calls.{Changed, changed, inStore, onStore}
@@ -33,10 +33,10 @@ pub record Sizing (wk l tr : List ℕ) (z : Sizes) : Type 0 where
   pub persistent : Sized l (z .n) (z .w)
   pub notes : Notes tr z
   pub some : 1 ≤ z .t
-  pub last : lastTaken tr < z .n
-  pub place : placeSlot tr < z .n
-  pub uid-lo : 1 ≤ nextUidOf tr
-  pub uid-hi : nextUidOf tr ≤ mostNumber + 1
+  pub last : note lastAt tr < z .n
+  pub place : note placeAt tr < z .n
+  pub uid-lo : 1 ≤ note nextUidAt tr
+  pub uid-hi : note nextUidAt tr ≤ mostNumber + 1
 
 pub sizing : (wk l tr : List ℕ) {r : Bool} → r ≡ sizesFit wk l tr → r ≡ true → Sizing wk l tr (sizesOf (table wk tr))
 unfolding sizesFit imagesFit threadsOk notesFit uidOk sizesOf
@@ -53,9 +53,9 @@ sizing wk l tr {r} e h =
     let z : Sized wk n (widthOf wk) = shaped wk (and-left (shapeOk wk) _ images) in
     let y : Sized l (slotsOf l) (widthOf l) = shaped l (and-left (shapeOk l) _ two) in
     let fits = and-left (leb 1 k && leb k 16) _ rest in
-    let notes = and-right (eqb (notedSlots tr) n) _ (and-right (leb 1 k && leb k 16) _ rest) in
-    let more = and-right (ltb (lastTaken tr) n) _ notes in
-    let uid = and-right (ltb (placeSlot tr) n) _ more in
+    let notes = and-right (eqb (note slotsAt tr) n) _ (and-right (leb 1 k && leb k 16) _ rest) in
+    let more = and-right (ltb (note lastAt tr) n) _ notes in
+    let uid = and-right (ltb (note placeAt tr) n) _ more in
     let lo : 1 ≤ k = leb-true 1 k (and-left (leb 1 k) _ fits) in
     let hi : k ≤ 16 = leb-true k 16 (and-right (leb 1 k) _ fits) in
     record {
@@ -63,10 +63,10 @@ sizing wk l tr {r} e h =
       persistent = rw (a, b) at y;
       notes = record { long = omega arith; slots-hi = z .sizes .slots-hi; threads-hi = hi };
       some = lo;
-      last = ltb-true _ _ (and-left (ltb (lastTaken tr) n) _ notes);
-      place = ltb-true _ _ (and-left (ltb (placeSlot tr) n) _ more);
-      uid-lo = leb-true _ _ (and-left (leb 1 (nextUidOf tr)) _ uid);
-      uid-hi = leb-true _ _ (and-right (leb 1 (nextUidOf tr)) _ uid);
+      last = ltb-true _ _ (and-left (ltb (note lastAt tr) n) _ notes);
+      place = ltb-true _ _ (and-left (ltb (note placeAt tr) n) _ more);
+      uid-lo = leb-true _ _ (and-left (leb 1 (note nextUidAt tr)) _ uid);
+      uid-hi = leb-true _ _ (and-right (leb 1 (note nextUidAt tr)) _ uid);
     }
 
 -- ---- and refusal 2

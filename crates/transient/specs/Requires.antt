@@ -9,7 +9,7 @@ use native.Mathlib.Omega.{arith}
 use Rattle.image.specs.Layout.{mostSlots, mostNumber, slotsOf, widthOf, clockOf}
 use Rattle.image.specs.Requires.{Sized, Slot, HeaderFits, slot, header-fits}
 use Rattle.transient.specs.declared.sizes.Sizes.{Sizes}
-use Rattle.transient.specs.Layout.{headWords, listBase, transientWords, lastTaken, nextUidOf, placeSlot}
+use Rattle.transient.specs.Layout.{headWords, listBase, transientWords, note, lastAt, nextUidAt, placeAt}
 
 -- ---- the notes alone
 pub record InReach (n t : ℕ) : Type 0 where
@@ -79,10 +79,10 @@ pub record ShapedSlot (wk tr : List ℕ) (z : Sizes) (s : ℕ) : Type 0 where
 pub record Entered (wk tr : List ℕ) (z : Sizes) : Type 0 where
   pub shaped : Shaped wk tr z
   pub some : 1 ≤ z .t
-  pub last : lastTaken tr < z .n
-  pub place : placeSlot tr < z .n
-  pub uid-lo : 1 ≤ nextUidOf tr
-  pub uid-hi : nextUidOf tr ≤ mostNumber + 1
+  pub last : note lastAt tr < z .n
+  pub place : note placeAt tr < z .n
+  pub uid-lo : 1 ≤ note nextUidAt tr
+  pub uid-hi : note nextUidAt tr ≤ mostNumber + 1
   pub clock-lo : 2 ≤ clockOf wk
   pub clock-hi : clockOf wk ≤ mostNumber
 

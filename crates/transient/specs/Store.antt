@@ -3,8 +3,8 @@ use Prim.Native.Nat.{ℕ}
 use mathlib.Core.List.{List}
 use lib.ListN.{length}
 use Rattle.reply.specs.declared.Check.{Check}
-use Rattle.reply.specs.declared.Check.the-variants.{Accepted, Refused}
 use Rattle.reply.specs.declared.Refusal.{Refusal}
+use Rattle.reply.specs.Refusals.{byCheck}
 use Rattle.image.specs.Layout.{slotsOf, widthOf}
 use Rattle.transient.specs.declared.sizes.Sizes.{Sizes}
 use Rattle.transient.specs.Layout.{threadsOf}
@@ -42,5 +42,4 @@ outcome r wk l tr = record { reply = r; store = store wk l tr }
 
 -- "Every refusal leaves both images and the notes unchanged"; where the check accepts, what follows
 abbrev pub afterCheck : {A : Type 0} → Check → (Refusal → A) → Store → Outcome A → Outcome A
-afterCheck (Refused r) decline st next = record { reply = decline r; store = st }
-afterCheck Accepted decline st next = next
+afterCheck k decline st next = byCheck k (λ r. record { reply = decline r; store = st }) next

@@ -5,7 +5,7 @@ ghost use Prim.Native.Nat.{_+_, _≤_, _<_};
 ghost use lib.ListN.{length, replicate};
 ghost use Rattle.image.specs.Layout.{mostSlots};
 ghost use Rattle.image.specs.Line.{stored};
-ghost use Rattle.transient.specs.Layout.{headWords, transientWords, threadsOf, threadsOk, blank, notedSlots, lastTaken, nextUidOf, placePhase, placeSlot, openEpoch, retiredIn, isWaiting, setLast, setNextUid, setOpen, setRetired, setWaiting, setPlace, emptied};
+ghost use Rattle.transient.specs.Layout.{headWords, transientWords, threadsOf, threadsOk, blank, note, slotsAt, lastAt, nextUidAt, phaseAt, placeAt, openEpoch, retiredIn, isWaiting, setLast, setNextUid, setOpen, setRetired, setWaiting, setPlace, emptied};
 ghost use Rattle.transient.specs.Requires.{Based, InReach, ThreadRoom, Blanking, Notes, NoteOf, ThreadOf};
 
 // Where the words of the head stand, and how many these are; then come the threads, then the slots.
@@ -60,35 +60,35 @@ pub fn set_blank(transient: &mut [u32], n: u32, uid: u32)
 
 pub fn noted_slots(transient: &[u32]) -> usize
     requires { ⌜ headWords ≤ length (now transient) ⌝ }
-    ensures { λ r. ⌜ r ≡ notedSlots (now (transient .entry)) ⌝ }
+    ensures { λ r. ⌜ r ≡ note slotsAt (now (transient .entry)) ⌝ }
 {
     image::shape::wide(transient[SLOTS])
 }
 
 pub fn last_taken(transient: &[u32]) -> usize
     requires { ⌜ headWords ≤ length (now transient) ⌝ }
-    ensures { λ r. ⌜ r ≡ lastTaken (now (transient .entry)) ⌝ }
+    ensures { λ r. ⌜ r ≡ note lastAt (now (transient .entry)) ⌝ }
 {
     image::shape::wide(transient[LAST])
 }
 
 pub fn next_uid(transient: &[u32]) -> u32
     requires { ⌜ headWords ≤ length (now transient) ⌝ }
-    ensures { λ r. ⌜ r ≡ nextUidOf (now (transient .entry)) ⌝ }
+    ensures { λ r. ⌜ r ≡ note nextUidAt (now (transient .entry)) ⌝ }
 {
     transient[NEXT_UID]
 }
 
 pub fn place_phase(transient: &[u32]) -> u32
     requires { ⌜ headWords ≤ length (now transient) ⌝ }
-    ensures { λ r. ⌜ r ≡ placePhase (now (transient .entry)) ⌝ }
+    ensures { λ r. ⌜ r ≡ note phaseAt (now (transient .entry)) ⌝ }
 {
     transient[PHASE]
 }
 
 pub fn place_slot(transient: &[u32]) -> usize
     requires { ⌜ headWords ≤ length (now transient) ⌝ }
-    ensures { λ r. ⌜ r ≡ placeSlot (now (transient .entry)) ⌝ }
+    ensures { λ r. ⌜ r ≡ note placeAt (now (transient .entry)) ⌝ }
 {
     image::shape::wide(transient[PLACE])
 }
