@@ -13,7 +13,7 @@ ghost use Rattle.survival.specs.Requires.{Headers, SlotMarked, AllMarked};
 ghost use Rattle.acceptance.specs.Accept.{blankHeader, filledHeader, proper, nameless, headCheck, slotsCheck, imageCheck};
 ghost use Rattle.acceptance.specs.Requires.{allProper, someNameless};
 
-fn blank_header(h: Header) -> bool
+pub fn blank_header(h: Header) -> bool
     ensures { λ r. ⌜ r ≡ blankHeader h ⌝ }
 {
     if h.kind != Header::FREE {

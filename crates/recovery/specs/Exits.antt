@@ -28,14 +28,14 @@ use Rattle.transient.specs.Layout.{threadsOf, threadsOk, blank}
 use Rattle.transient.specs.Store.{store, Outcome, outcome}
 use Rattle.transient.specs.Requires.{Blanking}
 use Rattle.survival.specs.Survivors.{survivor, keptAnti}
-use Rattle.survival.specs.Requires.{Headers, Marked, AllMarked, headers-of, header-in, marks}
+use Rattle.survival.specs.Requires.{Headers, Marked, AllMarked, FlagAt, headers-of, header-in, flag-at, flag-header, flag-of, marks}
 use Rattle.survival.specs.Laws.{flag-is}
 use Rattle.acceptance.specs.Accept.{headCheck, slotsCheck}
 use Rattle.acceptance.specs.Sound.{Sound, sound, uid-top}
 use Rattle.recovery.specs.declared.Recovery.{Recovery}
 use Rattle.recovery.specs.declared.Recovery.the-variants.{WentOn, Done, Declined}
 use Rattle.recovery.specs.Recover.{antiAt, stale, nextFreed, nextUid, lengthsFit, recoverCheck, finished, freeing, recover}
-use Rattle.recovery.specs.Requires.{uidOf, recoverEntryCheck, FlagAt, flag-at, flag-header, flag-of, Uids, Finishing, Judged, recoverSized}
+use Rattle.recovery.specs.Requires.{uidOf, recoverEntryCheck, Uids, Finishing, Judged, recoverSized}
 
 -- ---- what is freed next
 pub anti-is : (l : List ℕ) (s : ℕ) {c : ℕ} {r : Bool} → c ≡ clockOf l → r ≡ keptAnti c (header l s) → r ≡ antiAt l s

@@ -1,4 +1,4 @@
--- What functions inside require: a flag beside an image, uids in range, and what refusals 1 and 2 of recover leave.
+-- What functions inside require: uids in range, and what refusals 1 and 2 of recover leave.
 use Prim.Native.Nat.{ℕ, _≤_, _<_}
 use mathlib.Core.Path.{_≡_}
 use mathlib.Core.Bool.{Bool, not}
@@ -8,10 +8,10 @@ use Rattle.reply.specs.declared.Check.{Check}
 use Rattle.reply.specs.declared.Refusal.the-variants.{BadSizes}
 use Rattle.reply.specs.Refusals.{refuse}
 use Rattle.image.specs.Layout.{mostNumber, header}
-use Rattle.image.specs.Requires.{HeaderFits, Sized}
+use Rattle.image.specs.Requires.{Sized}
 use Rattle.transient.specs.Layout.{headWords}
 use Rattle.transient.specs.Store.{Store, Outcome, afterCheck}
-use Rattle.survival.specs.Requires.{HeaderOf, Marked, header-in}
+use Rattle.survival.specs.Requires.{Marked}
 use Rattle.acceptance.specs.Accept.{headCheck, slotsCheck}
 use Rattle.recovery.specs.Recover.{nextFreed, lengthsFit, freeing}
 use Rattle.recovery.specs.declared.Recovery.{Recovery}
@@ -23,19 +23,6 @@ uidOf l s = header l s .uid
 -- refusals 1 and 2, before the slots are judged
 unfoldable pub recoverEntryCheck : ℕ → List ℕ → ℕ → Check
 recoverEntryCheck working l transient = refuse (not (lengthsFit working l transient)) BadSizes (headCheck l)
-
-pub record FlagAt (l : List ℕ) (n s : ℕ) (flags : List Bool) : Type 0 where
-  pub marked : Marked l n flags
-  pub within : s < n
-
-pub flag-at : {l : List ℕ} {n s : ℕ} {flags : List Bool} → Marked l n flags → s < n → FlagAt l n s flags
-flag-at z h = record { marked = z; within = h }
-
-pub flag-header : {l : List ℕ} {n s : ℕ} {flags : List Bool} → FlagAt l n s flags → HeaderFits l n s
-flag-header z = header-in (z .marked .headers) (z .within)
-
-pub flag-of : {l : List ℕ} {n s : ℕ} {flags : List Bool} → FlagAt l n s flags → HeaderOf l n s
-flag-of z = record { headers = z .marked .headers; within = z .within }
 
 pub record Uids (l : List ℕ) (n : ℕ) (flags : List Bool) : Type 0 where
   pub marked : Marked l n flags

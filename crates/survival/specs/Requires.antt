@@ -38,6 +38,10 @@ pub record SlotMarked (l : List ℕ) (n w s : ℕ) (flags : List Bool) : Type 0 
   pub slot : Slot l n w s
   pub flagged : Flagged flags (survivor l n) n
 
+pub record FlagAt (l : List ℕ) (n s : ℕ) (flags : List Bool) : Type 0 where
+  pub marked : Marked l n flags
+  pub within : s < n
+
 -- ---- chains of uids: words for them, the slots linked, and one of these
 unfoldable pub uids : List ℕ → ℕ → ℕ
 uids l s = header l s .uid
@@ -72,6 +76,15 @@ all-headers z = headers-of (z .sized)
 
 pub slot-marked : {l : List ℕ} {n w s : ℕ} {flags : List Bool} → AllMarked l n w flags → s < n → SlotMarked l n w s flags
 slot-marked z h = record { slot = slot (z .sized) h; flagged = z .flagged }
+
+pub flag-at : {l : List ℕ} {n s : ℕ} {flags : List Bool} → Marked l n flags → s < n → FlagAt l n s flags
+flag-at z h = record { marked = z; within = h }
+
+pub flag-header : {l : List ℕ} {n s : ℕ} {flags : List Bool} → FlagAt l n s flags → HeaderFits l n s
+flag-header z = header-in (z .marked .headers) (z .within)
+
+pub flag-of : {l : List ℕ} {n s : ℕ} {flags : List Bool} → FlagAt l n s flags → HeaderOf l n s
+flag-of z = record { headers = z .marked .headers; within = z .within }
 
 pub uids-small : {l : List ℕ} {n : ℕ} → Headers l n → n ≤ 64 → UidsUnlinked l n (replicate 64 0) (replicate 64 0)
 uids-small z h = record { headers = z; room = room-small h }

@@ -1,0 +1,4 @@
+pub mod Classes
+pub mod Requires
+pub mod Exits
+pub mod OneClass
