@@ -33,6 +33,18 @@ put-both {a} {b} {c} {s} {t} {at} {m} {e} x y =
       is = y .is ∙ ap (λ z. z ++ t) (x .is) ∙ append-assoc (take at a) s t;
     }
 
+-- a whole line: the first `end` bytes of the buffer, which is as long as before
+pub record Line (before : List ℕ) (text : List ℕ) (after : List ℕ) (end : ℕ) : Type 0 where
+  pub room : length after ≡ length before
+  pub fits : end ≤ length after
+  pub long : end ≡ length (take end after)
+  pub is : take end after ≡ text
+
+pub line-of : {before text after : List ℕ} {end : ℕ} → Put before 0 text after end → length text ≤ length before → Line before text after end
+line-of {before} {text} {after} {end} p h =
+    let f : end ≤ length after = omega (arith, p .long, p .ends) in
+    record { room = p .long; fits = f; long = sym (length-take-le end after f); is = p .is }
+
 -- ---- a loop has put i bytes
 pub record Putting (before : List ℕ) (at : ℕ) (part : List ℕ) (i : ℕ) (out : List ℕ) : Type 0 where
   pub low : i ≤ length part
@@ -51,12 +63,12 @@ putting-next {before} {at} {part} {i} {out} {v} z h room e =
     record {
       low = omega arith;
       so-far =
-        record {
-          long = length-set out (at + i) v ∙ z .so-far .long;
-          ends = rw (length-take-le (i + 1) part (omega arith)) refl;
-          is =
-            rw (up, take-suc-set out (at + i) v fits, z .so-far .is, append-assoc (take at before) (take i part) (v ∷ []), e, add-one i, take-suc part i 0 h);
-        };
+          record {
+            long = length-set out (at + i) v ∙ z .so-far .long;
+            ends = rw (length-take-le (i + 1) part (omega arith)) refl;
+            is =
+                rw (up, take-suc-set out (at + i) v fits, z .so-far .is, append-assoc (take at before) (take i part) (v ∷ []), e, add-one i, take-suc part i 0 h);
+          };
     }
 
 pub putting-end : {before : List ℕ} {at : ℕ} {part : List ℕ} {i : ℕ} {out : List ℕ} → Putting before at part i out → length part ≤ i → Put before at part out (at + i)
@@ -65,7 +77,6 @@ putting-end {before} {at} {part} {i} z h = rw (take-all i part h) at (z .so-far)
 pub putting-fits : {before : List ℕ} {at : ℕ} {part : List ℕ} {i : ℕ} {out : List ℕ} → Putting before at part i out → i < length part
     → at + length part ≤ length before → at + i < length out
 putting-fits z h room = omega (arith, z .so-far .long)
-
 
 -- ---- numbers: what the toolchain's `decimal` spells
 power-ten : (j : ℕ) → 1 ≤ 10 ^ j
@@ -77,12 +88,12 @@ few-digits k x f small =
     elim (decLe k 20) [
       | yes a ↦ a
       | no a ↦
-        let j = k - 21 in
-        let up : k - 1 ≡ 20 + j = omega arith in
-        let most : 10 ^ (k - 1) ≤ x = f .2 (omega arith) in
-        let split : 10 ^ (20 + j) ≡ 10 ^ 20 * 10 ^ j = pow-add 10 20 j in
-        let big : 10 ^ 20 * 10 ^ j ≤ x = rw (up, split) at most in
-        absurd (omega (arith, power-ten j))
+          let j = k - 21 in
+          let up : k - 1 ≡ 20 + j = omega arith in
+          let most : 10 ^ (k - 1) ≤ x = f .2 (omega arith) in
+          let split : 10 ^ (20 + j) ≡ 10 ^ 20 * 10 ^ j = pow-add 10 20 j in
+          let big : 10 ^ 20 * 10 ^ j ≤ x = rw (up, split) at most in
+          absurd (omega (arith, power-ten j))
     ]
 
 digits-in : (r k n : ℕ) → r ≤ k → Fewest 10 1 n r → digits 10 r n ≡ digitsIn k n
@@ -114,7 +125,7 @@ module _ (x k : ℕ) (ds : List ℕ) (c : Counts k ds) (f : Fewest 10 1 x k) (sm
   number-put e p = rw (e, digits-in k 20 x (few-digits k x f small) f) at p
 
 -- ---- numbers with a space before each
-decimal-short : (n : ℕ) → length (decimal n) ≤ 20
+pub decimal-short : (n : ℕ) → length (decimal n) ≤ 20
 unfolding decimal digitsIn
 decimal-short n = short 20 n
   where
@@ -126,6 +137,16 @@ decimal-short n = short 20 n
         (λ (f : ltb m 10 ≡ false). rw (f, length-append (digitsIn k (m / 10)) ((48 + m % 10) ∷ [])) (omega (arith, short k (m / 10))))
         (cases (ltb m 10))
 
+-- a word and a number: where they end at most
+pub figure-ends : (word : List ℕ) (x : ℕ) {before after : List ℕ} {at end : ℕ} → Put before at (word ++ decimal x) after end → end ≤ at + length word + 20
+figure-ends word x p = omega (arith, p .ends, length-append word (decimal x), decimal-short x)
+
+-- a text, and behind it the end of the line
+pub line-done : {before text mid after : List ℕ} {k end : ℕ} → Put before 0 text mid k → Put mid k (10 ∷ []) after end → k + 1 ≤ length before
+    → Line before (text ++ (10 ∷ [])) after end
+line-done {before} {text} p q h =
+    line-of (put-both p q) (simp length-append (omega (arith, p .ends)))
+
 spaced-append : (xs ys : List ℕ) → spaced (xs ++ ys) ≡ spaced xs ++ spaced ys
 unfolding spaced
 spaced-append [] ys = refl
@@ -135,6 +156,11 @@ spaced-next : (xs : List ℕ) (i : ℕ) → i < length xs → spaced (take (i + 
 unfolding spaced
 spaced-next xs i h =
     rw (add-one i, take-suc xs i 0 h, spaced-append (take i xs) (getD xs i 0 ∷ []), append-nil (decimal (getD xs i 0)))
+
+pub spaced-short : (xs : List ℕ) → length (spaced xs) ≤ 21 * length xs
+unfolding spaced
+spaced-short [] = omega arith
+spaced-short (x ∷ xs) = rw (length-append (decimal x) (spaced xs)) (omega (arith, spaced-short xs, decimal-short x))
 
 -- a loop has put i numbers
 pub record Spacing (before : List ℕ) (at : ℕ) (numbers : List ℕ) (i : ℕ) (out : List ℕ) (k : ℕ) : Type 0 where

@@ -38,7 +38,8 @@ pub fn put_figure(out: &mut [u8], at: usize, word: &[u8], x: u64) -> usize
     put_number(out, k, x)
 }
 
-fn wide(x: u32) -> u64
+// A word as a number to put.
+pub fn wide(x: u32) -> u64
     ensures { λ r. ⌜ r ≡ x ⌝ }
 {
     x as u64

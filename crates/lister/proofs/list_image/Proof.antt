@@ -8,14 +8,10 @@ pub list-image-spec : {M : Type 1} → statement M
 list-image-spec =
     tie.close
     (tie.spec
-    (λ c κs. search (needs, laws))
-    (λ c. search (needs, laws))
-    (λ c κs. search (needs, laws))
-    (λ c. search (needs, laws))
     (λ c. search (needs, laws))
     (λ c κs. search (needs, laws))
     (λ c. search (needs, laws))
     (λ c κs. search (needs, laws))
-    (λ c κs. search (needs, laws))
     (λ c. search (needs, laws))
+    (λ c κs. search (needs, laws))
     (λ c. search (needs, laws)))

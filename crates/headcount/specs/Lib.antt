@@ -1,0 +1,3 @@
+pub mod CountLine
+pub mod Requires
+pub mod Exits
