@@ -2,7 +2,7 @@
 # make test       the whole gate: proofs from nothing, must-fail edits, tests from outside
 # make demo       two days at the desk with a power cut each; CUTS=all tries every store, SEED=n repeats a run
 # make bench      the library against the same rules in C, SQLite and LMDB: tables and a plot in target/bench
-# make install    library, header, pkg-config file and lister below PREFIX (/usr/local), behind DESTDIR
+# make install    library, header, pkg-config file, lister and headcount below PREFIX (/usr/local), behind DESTDIR
 # make uninstall  takes them away again
 # make clean      removes what was built
 SHELL := /bin/bash
@@ -17,7 +17,7 @@ CUTS ?= one
 SEED ?=
 
 library := target/staticlib/libboard.a
-lister := target/bin/lister
+programs := target/bin/lister target/bin/headcount
 demo_files := demo/demo.c demo/cuts.c demo/desk.c demo/early.c
 # The files of a crate and of all that it stands on.
 sources = crates.txt $(shell find $(addprefix crates/,$(1) $(shell sed -n 's/^$(1): *//p' crates.txt)) \
@@ -36,10 +36,13 @@ $(library): $(call sources,board)
 	@touch $@
 	@echo 'Built $@; its C view is include/board.h.'
 
-$(lister): $(call sources,lister)
-	@echo 'Proving and compiling the image lister and what it stands on.'
-	@tools/prove check lister
-	@touch $@
+define program
+target/bin/$(1): $(call sources,$(1))
+	@echo 'Proving and compiling $(1) and what it stands on.'
+	@tools/prove check $(1)
+	@touch $$@
+endef
+$(foreach name,$(notdir $(programs)),$(eval $(call program,$(name))))
 
 test:
 	@.ci/run
@@ -65,17 +68,18 @@ bench: target/bench/bench target/bench/durable
 bench-docs:
 	@bench/report target/bench --docs
 
-install: $(library) $(lister)
+install: $(library) $(programs)
 	@mkdir -p target
 	@sed -e 's|@PREFIX@|$(PREFIX)|' -e 's|@VERSION@|$(VERSION)|' board.pc.in > target/board.pc
 	install -D -m 644 $(library) $(DESTDIR)$(PREFIX)/lib/libboard.a
 	install -D -m 644 include/board.h $(DESTDIR)$(PREFIX)/include/board.h
 	install -D -m 644 target/board.pc $(DESTDIR)$(PREFIX)/lib/pkgconfig/board.pc
-	install -D -m 755 $(lister) $(DESTDIR)$(PREFIX)/bin/lister
+	install -d $(DESTDIR)$(PREFIX)/bin
+	install -m 755 $(programs) $(DESTDIR)$(PREFIX)/bin
 
 uninstall:
 	rm -f $(DESTDIR)$(PREFIX)/lib/libboard.a $(DESTDIR)$(PREFIX)/include/board.h
-	rm -f $(DESTDIR)$(PREFIX)/lib/pkgconfig/board.pc $(DESTDIR)$(PREFIX)/bin/lister
+	rm -f $(DESTDIR)$(PREFIX)/lib/pkgconfig/board.pc $(addprefix $(DESTDIR)$(PREFIX)/bin/,$(notdir $(programs)))
 
 clean:
 	rm -rf target

@@ -13,21 +13,23 @@ use Rattle.headcount.specs.CountLine.{countLine}
 use Rattle.headcount.specs.Requires.{earlier, later}
 
 -- ---- two figures
-module _ (c : HeadCount) (x : ℕ) {before mid : List ℕ} {k : ℕ} (e : x ≡ c .free) (room : 160 ≤ length before) (p : Put before 0 (ascii "free " ++ decimal x) mid k) where
-  pub earlier-room : k + 11 + 20 ≤ length mid
-  earlier-room = omega (arith, figure-ends (ascii "free ") x p, p .long)
+module _ (x : ℕ) {before mid : List ℕ} {k : ℕ} (p : Put before 0 (ascii "free " ++ decimal x) mid k) where
+  pub earlier-room : 160 ≤ length before → k + 11 + 20 ≤ length mid
+  earlier-room room = omega (arith, figure-ends (ascii "free ") x p, p .long)
 
-  pub earlier-put : (y : ℕ) {after : List ℕ} {end : ℕ} → y ≡ c .surviving → Put mid k (ascii " surviving " ++ decimal y) after end → Put before 0 (earlier c) after end
+  pub earlier-put : (c : HeadCount) (y : ℕ) {after : List ℕ} {end : ℕ} → x ≡ c .free → y ≡ c .surviving → Put mid k (ascii " surviving " ++ decimal y) after end
+      → Put before 0 (earlier c) after end
   unfolding earlier
-  earlier-put y f q = rw (← e, ← f) (put-both p q)
+  earlier-put c y e f q = rw (← e, ← f) (put-both p q)
 
-module _ (c : HeadCount) (at x : ℕ) {before mid : List ℕ} {k : ℕ} (e : x ≡ c .kept) (room : at + 80 ≤ length before) (p : Put before at (ascii " kept " ++ decimal x) mid k) where
-  pub later-room : k + 5 + 20 ≤ length mid
-  later-room = omega (arith, figure-ends (ascii " kept ") x p, p .long)
+module _ (at x : ℕ) {before mid : List ℕ} {k : ℕ} (p : Put before at (ascii " kept " ++ decimal x) mid k) where
+  pub later-room : at + 80 ≤ length before → k + 5 + 20 ≤ length mid
+  later-room room = omega (arith, figure-ends (ascii " kept ") x p, p .long)
 
-  pub later-put : (y : ℕ) {after : List ℕ} {end : ℕ} → y ≡ c .new → Put mid k (ascii " new " ++ decimal y) after end → Put before at (later c) after end
+  pub later-put : (c : HeadCount) (y : ℕ) {after : List ℕ} {end : ℕ} → x ≡ c .kept → y ≡ c .new → Put mid k (ascii " new " ++ decimal y) after end
+      → Put before at (later c) after end
   unfolding later
-  later-put y f q = rw (← e, ← f) (put-both p q)
+  later-put c y e f q = rw (← e, ← f) (put-both p q)
 
 -- ---- where they end at most
 earlier-short : (c : HeadCount) → length (earlier c) ≤ 56

@@ -12,6 +12,7 @@ pub mod crash;
 pub mod damage;
 pub mod epochs;
 pub mod generator;
+pub mod headcount;
 pub mod image;
 pub mod lister;
 pub mod random;

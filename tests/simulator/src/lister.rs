@@ -1,4 +1,4 @@
-//! What the lister prints, and the server's two questions.
+//! The image that a program is given, what the lister prints of it, and the server's two questions.
 
 use crate::calls::refused;
 use crate::image::LARGEST_IMAGE;
@@ -19,11 +19,17 @@ pub fn bytes_of(words: &[u32]) -> Vec<u8> {
     words.iter().flat_map(|word| word.to_le_bytes()).collect()
 }
 
+/// The image that some bytes are, where recovery accepts it.
+pub fn accepted_image(bytes: &[u8]) -> Result<(Vec<u32>, Accepted), Refusal> {
+    let image = words_of(bytes)?;
+    let accepted = judge(&image)?;
+    Ok((image, accepted))
+}
+
 /// "It prints `clock C survivors K`, then for each survivor in slot order the slot, key and value words, one
 /// space between; on a refusal only `refused` and the number".
 pub fn listing(bytes: &[u8]) -> String {
-    let judged = words_of(bytes).and_then(|image| judge(&image).map(|accepted| (image, accepted)));
-    let (image, Accepted { sizes, clock, survivors }) = match judged {
+    let (image, Accepted { sizes, clock, survivors }) = match accepted_image(bytes) {
         Ok(accepted) => accepted,
         Err(refusal) => return format!("refused {refusal}\n"),
     };

@@ -4,6 +4,7 @@ mod common;
 
 use common::{delete, fresh, make, new, tick, BEGIN, END};
 use simulator::calls::{image_words, refusal_of, refused, simulate, transient_words, Call, DONE, WENT_ON};
+use simulator::headcount::{figures, head_count};
 use simulator::image::{Header, ALLOC, DELETE, UPDATE};
 use simulator::lister::{bytes_of, clock_answer, listing, survivors_answer};
 use simulator::recovery::judge;
@@ -155,4 +156,25 @@ fn each_stored_image_is_refused_as_its_name_says() {
     let count = |line: &str| first_words.iter().filter(|(_, first)| first == line).count();
     let counts = ["refused 1", "refused 2", "refused 3", "refused 4"].map(count);
     assert_eq!((counts, first_words.len()), ([17, 4, 10, 5], 47), "{first_words:#?}");
+}
+
+#[test]
+fn the_head_count_of_the_worked_image() {
+    let bytes = bytes_of(&EXAMPLE);
+    assert_eq!(head_count(&bytes), "free 0 surviving 1 kept 0 new 1 total 2\n");
+    assert_eq!(head_count(&bytes[..51]), "refused 1\n");
+}
+
+#[test]
+fn losing_versions_and_kept_deletes_are_kept() {
+    let filled = [(ALLOC, 5, 1, 3), (UPDATE, 6, 1, 3), (ALLOC, 4, 2, 4), (DELETE, 7, 2, 4), (ALLOC, 8, 3, 5), (UPDATE, 9, 1, 3)];
+    let counted = head_count(&bytes_of(&image_with(8, 2, 9, &filled)));
+    assert_eq!(counted, "free 2 surviving 1 kept 3 new 2 total 8\n");
+}
+
+#[test]
+fn a_figure_is_no_rest_of_the_others() {
+    let torn = Header { kind: 0, epoch: 5, uid: 0 };
+    let too_high = Header { kind: 4, epoch: 5, uid: 1 };
+    assert_eq!(figures(&[torn, too_high, Header::FREE], 9, &[]), [1, 0, 0, 0]);
 }

@@ -1,6 +1,8 @@
-//! Writes each stored image as NAME.image and what the lister has to print for it as NAME.listing.
+//! Writes each stored image as NAME.image, and what the lister and the head count have to print for it as NAME.lister and
+//! NAME.headcount.
 //! Usage: images DIRECTORY
 
+use simulator::headcount::head_count;
 use simulator::lister::listing;
 use simulator::stored::stored_images;
 use std::path::PathBuf;
@@ -11,7 +13,8 @@ fn main() -> std::io::Result<()> {
     let images = stored_images();
     for (name, bytes) in &images {
         std::fs::write(directory.join(format!("{name}.image")), bytes)?;
-        std::fs::write(directory.join(format!("{name}.listing")), listing(bytes))?;
+        std::fs::write(directory.join(format!("{name}.lister")), listing(bytes))?;
+        std::fs::write(directory.join(format!("{name}.headcount")), head_count(bytes))?;
     }
     println!("{} stored images", images.len());
     Ok(())

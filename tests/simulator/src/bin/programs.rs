@@ -1,0 +1,77 @@
+//! Puts random images to the lister and to the head count, as built, and compares what they print with the simulator.
+//! Usage: programs DIRECTORY SEED COUNT, DIRECTORY being where the two programs are.
+
+use simulator::damage::{any_image, damage_length};
+use simulator::headcount::head_count;
+use simulator::image::Sizes;
+use simulator::lister::{bytes_of, listing};
+use simulator::random::Random;
+use std::io::Write;
+use std::path::{Path, PathBuf};
+use std::process::{Command, Stdio};
+
+/// How often each refusal came up, and how many slots were in each class.
+#[derive(Default)]
+struct Seen {
+    refusals: [usize; 5],
+    classes: [usize; 4],
+}
+
+fn main() {
+    let arguments: Vec<String> = std::env::args().collect();
+    let [_, directory, seed, count] = &arguments[..] else { panic!("usage: programs DIRECTORY SEED COUNT") };
+    let directory = PathBuf::from(directory);
+    let seed: u64 = seed.parse().expect("SEED is a number");
+    let count: usize = count.parse().expect("COUNT is a number");
+    let mut random = Random::new(seed);
+    let mut seen = Seen::default();
+    for number in 0..count {
+        let bytes = any_bytes(&mut random);
+        let counted = head_count(&bytes);
+        seen.note(&counted);
+        compare(&directory.join("headcount"), &bytes, &counted, number);
+        compare(&directory.join("lister"), &bytes, &listing(&bytes), number);
+    }
+    let rare = seen.refusals[1..].iter().any(|&times| times < 50) || seen.classes.iter().any(|&slots| slots < 500);
+    assert!(!rare, "too few of some kind: refusals {:?}, slots by class {:?}", &seen.refusals[1..], seen.classes);
+    println!("{count} images, seed {seed}, slots by class {:?}", seen.classes);
+}
+
+/// The bytes of an image, now and then of a wrong length.
+fn any_bytes(random: &mut Random) -> Vec<u8> {
+    let slots = if random.chance(2) { 1024 } else { random.between(2, 12) };
+    let sizes = Sizes::new(slots, random.between(2, 9)).expect("these sizes are in range");
+    let mut image = any_image(random, sizes);
+    if random.chance(3) {
+        damage_length(random, &mut image);
+    }
+    let mut bytes = bytes_of(&image);
+    if random.chance(2) {
+        bytes.truncate(bytes.len().saturating_sub(random.below(4)));
+    }
+    bytes
+}
+
+impl Seen {
+    fn note(&mut self, counted: &str) {
+        let numbers: Vec<usize> = counted.split_whitespace().filter_map(|word| word.parse().ok()).collect();
+        match &numbers[..] {
+            [refusal] => self.refusals[*refusal] += 1,
+            [figures @ .., _total] => {
+                for (sum, figure) in self.classes.iter_mut().zip(figures) {
+                    *sum += figure;
+                }
+            }
+            [] => panic!("no number in {counted}"),
+        }
+    }
+}
+
+fn compare(program: &Path, bytes: &[u8], wanted: &str, number: usize) {
+    let child = Command::new(program).stdin(Stdio::piped()).stdout(Stdio::piped()).spawn();
+    let mut child = child.unwrap_or_else(|error| panic!("{}: {error}", program.display()));
+    child.stdin.take().expect("the input is a pipe").write_all(bytes).expect("the program reads its input");
+    let output = child.wait_with_output().expect("the program ends");
+    let printed = String::from_utf8_lossy(&output.stdout);
+    assert!(printed == wanted, "{}, image {number}:\nprinted {printed}wanted  {wanted}bytes {bytes:?}", program.display());
+}
