@@ -11,7 +11,7 @@ use Rattle.image.specs.Line.{headerLine, contentsLine, storeLine}
 use Rattle.transient.specs.Store.{Store, Outcome, outcome, afterCheck}
 use Rattle.transient.specs.Entry.{entryCheck}
 
--- 16: "slot not below N, or line code other than 0 (contents) and 1 (mark)"
+-- 16: "slot not below N, or line code other than 0 (contents) and 1 (mark)"; else that line of the slot, as working holds it
 unfoldable pub writeBack : Store → ℕ → ℕ → Outcome Check
 writeBack st slot code =
     afterCheck (byCheck (entryCheck st) Refused (refuse (leb (slotsOf (st .working)) slot || ltb 1 code) NoLine Accepted)) Refused st
