@@ -5,8 +5,8 @@ use mathlib.Core.Logic.{Iff·trans}
 use mathlib.Core.List.{[], List·Memᴰ·not-nil}
 use native.Mathlib.Omega.{arith}
 use Rattle.image.specs.Name.{Name}
-use Rattle.crash.specs.Reference.{Value, Jobs, jobsAt}
-use Rattle.crash.specs.Slots.{State, Visible, Shows, One, Inv}
+use Rattle.crash.specs.Reference.{Jobs, jobsAt}
+use Rattle.crash.specs.Slots.{Value, State, Visible, Shows, One, Inv}
 use Rattle.crash.specs.Steps.{Start}
 use Rattle.crash.specs.OneSlot.{slotty, same-proper, old-waits, rest-underway}
 

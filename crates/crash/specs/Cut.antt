@@ -6,8 +6,8 @@ use mathlib.Core.Option.{some}
 use native.Mathlib.Omega.{arith}
 use native.Mathlib.Decide.{ℕ-discrete, decLe}
 use Rattle.image.specs.Name.{Name, Named}
-use Rattle.crash.specs.Reference.{Value, jobsAt}
-use Rattle.crash.specs.Slots.{Slot, State, SameHead, SameLine, Live, Visible, Shows, Kin, Inv}
+use Rattle.crash.specs.Reference.{jobsAt}
+use Rattle.crash.specs.Slots.{Value, Slot, State, SameHead, SameLine, Live, Visible, Shows, Kin, Inv}
 use Rattle.crash.specs.Steps.{Kept, Survives}
 use Rattle.crash.specs.OneSlot.{slotty}
 use Rattle.crash.specs.Versions.{kin-cases}

@@ -4,8 +4,7 @@ use mathlib.Core.Path.{_≡_}
 use mathlib.Core.Logic.{_↔_}
 use Rattle.image.specs.Name.{Name}
 use Rattle.crash.specs.Table.{Pairwise, Every, Any}
-use Rattle.crash.specs.Reference.{Value}
-use Rattle.crash.specs.Slots.{Entry, Slot, Shows, Two, Next}
+use Rattle.crash.specs.Slots.{Value, Entry, Slot, Shows, Two, Next}
 
 -- the slot with another persistent side and other waiting words
 abbrev pub dressed : Entry → ℕ → ℕ → Slot → Slot

@@ -2,9 +2,9 @@
 use Prim.Native.Nat.{ℕ, _≤_, _<_}
 use mathlib.Core.Path.{refl}
 use mathlib.Core.Logic.{_≢_}
+use mathlib.Core.Option.{Option, some}
 use native.Mathlib.Omega.{arith}
-use Rattle.crash.specs.Reference.{Value, Act, altered}
-use Rattle.crash.specs.Slots.{Entry, Slot, State, Proper, Inv}
+use Rattle.crash.specs.Slots.{Value, Entry, Slot, State, Proper, Inv}
 use Rattle.crash.specs.Steps.{entry, rewritten, after, revalued, InPlace}
 use Rattle.crash.specs.Versions.{current-newest, current-lone}
 use Rattle.crash.specs.Write.{Own, Tells, tells-value, Newer, Heir, Write, write-inv}
@@ -18,11 +18,11 @@ module _ {x : Entry} {e r now before : ℕ} {st : State} {g : ℕ → Slot} (i :
   new = rewritten x now before old
 
   -- x is of this epoch and job, newer than the other slots of its uid, and the heir of the version
-  pub in-place-inv : {act : Act} {v : Value} → Own e (old .working .name) x → Proper (st .clock) x → x .uid < st .uid → Tells act v x
+  pub in-place-inv : {v : Option Value} → Own e (old .working .name) x → Proper (st .clock) x → x .uid < st .uid → Tells v x
       → ((m : ℕ) → m ≢ r → Newer new (st .slots m)) → ((m : ℕ) → m ≢ r → Heir old new (st .slots m))
-      → Inv (after st g (st .uid) e act (old .working .name) v)
-  in-place-inv {act} {v} own proper below tells newer heir =
-      let write : Write act e r (st .uid) (old .working .name) v x (old .retired) now before st = record {
+      → Inv (after st g (st .uid) e (old .working .name) v)
+  in-place-inv {v} own proper below tells newer heir =
+      let write : Write e r (st .uid) (old .working .name) v x (old .retired) now before st = record {
         operation = t .of .operation;
         joins = t .joins;
         was = record { epoch-is = λ _. t .epoch-is; name-is = λ _. refl };
@@ -38,9 +38,9 @@ module _ {x : Entry} {e r now before : ℕ} {st : State} {g : ℕ → Slot} (i :
 -- ---- where uid, epoch and name stay and the kind does not go down
 module _ {kind : ℕ} {w : Value} {e r now before : ℕ} {st : State} {g : ℕ → Slot} (i : Inv st)
     (t : InPlace (entry kind (st .slots r .working .epoch) (st .slots r .working .uid) (st .slots r .working .name) w) e r now before st g) where
-  pub kept-uid-inv : {act : Act} {v : Value} → st .slots r .working .kind ≤ kind → kind ≤ 3
-      → Tells act v (entry kind (st .slots r .working .epoch) (st .slots r .working .uid) (st .slots r .working .name) w)
-      → Inv (after st g (st .uid) e act (st .slots r .working .name) v)
+  pub kept-uid-inv : {v : Option Value} → st .slots r .working .kind ≤ kind → kind ≤ 3
+      → Tells v (entry kind (st .slots r .working .epoch) (st .slots r .working .uid) (st .slots r .working .name) w)
+      → Inv (after st g (st .uid) e (st .slots r .working .name) v)
   kept-uid-inv up hi tells =
       let one = i .one r in
       in-place-inv i t
@@ -52,5 +52,5 @@ module _ {kind : ℕ} {w : Value} {e r now before : ℕ} {st : State} {g : ℕ �
       (λ m h l a. search arith)
 
 pub set-inv : {v : Value} {e r now before : ℕ} {st : State} {g : ℕ → Slot} → Inv st → InPlace (revalued v (st .slots r .working)) e r now before st g
-    → Inv (after st g (st .uid) e altered (st .slots r .working .name) v)
-set-inv i t = kept-uid-inv i t (omega arith) (omega arith) (tells-value (t .of .payload) refl refl)
+    → Inv (after st g (st .uid) e (st .slots r .working .name) (some v))
+set-inv i t = kept-uid-inv i t (omega arith) (omega arith) (tells-value (t .of .payload) refl)

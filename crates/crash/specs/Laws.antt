@@ -10,25 +10,24 @@ use native.Mathlib.Omega.{arith}
 use native.Mathlib.Decide.{decLe}
 use borrow.Author.Tests.{le-leb, lt-leb}
 use Rattle.image.specs.Name.{Name, name-same, name-other, name-dec}
-use Rattle.crash.specs.Reference.{Value, Jobs, Change, leaves, applied, played, jobsAt}
-use Rattle.crash.specs.Slots.{UpTo}
+use Rattle.crash.specs.Reference.{Jobs, Change, applied, jobsAt}
+use Rattle.crash.specs.Slots.{Value, UpTo}
 
--- the last entry is played last
-played-snoc : (e : ℕ) (jobs : Jobs) (row : List Change) (ch : Change)
-    → played e jobs (row ++ (ch ∷ [])) ≡ cond (leb (ch .epoch) e) (applied ch (played e jobs row)) (played e jobs row)
-played-snoc e jobs [] ch = refl
-played-snoc e jobs (x ∷ row) ch = played-snoc e (cond (leb (x .epoch) e) (applied x jobs) jobs) row ch
+-- the last entry changes the jobs last
+jobs-snoc : (e : ℕ) (jobs : Jobs) (row : List Change) (ch : Change)
+    → jobsAt e jobs (row ++ (ch ∷ [])) ≡ cond (leb (ch .epoch) e) (applied ch (jobsAt e jobs row)) (jobsAt e jobs row)
+unfolding jobsAt
+jobs-snoc e jobs [] ch = refl
+jobs-snoc e jobs (x ∷ row) ch = jobs-snoc e (cond (leb (x .epoch) e) (applied x jobs) jobs) row ch
 
 module _ (e : ℕ) (start : Jobs) (row : List Change) (ch : Change) (k : Name) where
   -- an entry of a later epoch is passed over
   jobs-late : e < ch .epoch → jobsAt e start (row ++ (ch ∷ [])) k ≡ jobsAt e start row k
-  unfolding jobsAt
-  jobs-late h = ap (λ (jobs : Jobs). jobs k) (played-snoc e start row ch) ∙ rw (lt-leb (ch .epoch) e h) refl
+  jobs-late h = ap (λ (jobs : Jobs). jobs k) (jobs-snoc e start row ch) ∙ rw (lt-leb (ch .epoch) e h) refl
 
   -- any other is applied
   jobs-due : ch .epoch ≤ e → jobsAt e start (row ++ (ch ∷ [])) k ≡ applied ch (jobsAt e start row) k
-  unfolding jobsAt
-  jobs-due h = ap (λ (jobs : Jobs). jobs k) (played-snoc e start row ch) ∙ rw (le-leb (ch .epoch) e h) refl
+  jobs-due h = ap (λ (jobs : Jobs). jobs k) (jobs-snoc e start row ch) ∙ rw (le-leb (ch .epoch) e h) refl
 
   -- the last entry is of a later epoch, or of another name
   pub jobs-other : (e < ch .epoch) ⊎ (k ≢ ch .name) → jobsAt e start (row ++ (ch ∷ [])) k ≡ jobsAt e start row k
@@ -36,20 +35,16 @@ module _ (e : ℕ) (start : Jobs) (row : List Change) (ch : Change) (k : Name) w
   jobs-other (inr h) = elim (decLe (ch .epoch) e) [ yes a ↦ jobs-due a ∙ rw (name-other k (ch .name) h) refl | no a ↦ jobs-late (omega arith) ]
 
   -- it is of this name and due
-  pub jobs-hit : ch .epoch ≤ e → k ≡ ch .name → jobsAt e start (row ++ (ch ∷ [])) k ≡ leaves (ch .act) (ch .value)
+  pub jobs-hit : ch .epoch ≤ e → k ≡ ch .name → jobsAt e start (row ++ (ch ∷ [])) k ≡ ch .value
   jobs-hit h q = jobs-due h ∙ rw (name-same k (ch .name) q) refl
 
--- where every change is due, a later epoch plays the same
-played-agree : (d e : ℕ) (jobs : Jobs) (row : List Change) → d ≤ e → UpTo d row → played e jobs row ≡ played d jobs row
-played-agree d e jobs [] h all = refl
-played-agree d e jobs (x ∷ row) h all =
-    let q : x .epoch ≤ d = all x (List·Memᴰ·head refl) in
-    rw (le-leb (x .epoch) d q, le-leb (x .epoch) e (omega arith)) (played-agree d e (applied x jobs) row h (λ ch w. all ch (List·Memᴰ·tail w)))
-
--- epochs after the last change see the same jobs
+-- where every change is due, a later epoch sees the same jobs
 pub jobs-agree : (d e : ℕ) (start : Jobs) (row : List Change) → d ≤ e → UpTo d row → jobsAt e start row ≡ jobsAt d start row
 unfolding jobsAt
-jobs-agree d e start row h all = played-agree d e start row h all
+jobs-agree d e jobs [] h all = refl
+jobs-agree d e jobs (x ∷ row) h all =
+    let q : x .epoch ≤ d = all x (List·Memᴰ·head refl) in
+    rw (le-leb (x .epoch) d q, le-leb (x .epoch) e (omega arith)) (jobs-agree d e (applied x jobs) row h (λ ch w. all ch (List·Memᴰ·tail w)))
 
 -- one more change of an epoch up to c
 pub late-snoc : (c : ℕ) (row : List Change) (x : Change) → x .epoch ≤ c → UpTo c row → UpTo c (row ++ (x ∷ []))
@@ -59,7 +54,7 @@ late-snoc c row x h all ch m = elim (List·Memᴰ·append-cases row m) [ inl w �
 pub shown-step : (S S′ : Name → Value → Type 0) (start : Jobs) (row : List Change) (ch : Change) (e : ℕ)
     → ((k : Name) (v : Value) → S k v ↔ (jobsAt e start row k ≡ some v))
     → ((k : Name) (v : Value) → (e < ch .epoch) ⊎ (k ≢ ch .name) → S k v ↔ S′ k v)
-    → (ch .epoch ≤ e → (v : Value) → S′ (ch .name) v ↔ (leaves (ch .act) (ch .value) ≡ some v))
+    → (ch .epoch ≤ e → (v : Value) → S′ (ch .name) v ↔ (ch .value ≡ some v))
     → (k : Name) (v : Value) → S′ k v ↔ (jobsAt e start (row ++ (ch ∷ [])) k ≡ some v)
 shown-step S S′ start row ch e was quiet loud k v = go (decLe (ch .epoch) e) (name-dec k (ch .name))
   where

@@ -1,10 +1,10 @@
 -- A new ALLOC keeps the invariant: its uid is fresh, and every earlier version of its name is retired by then.
 use Prim.Native.Nat.{ℕ, suc, _≤_}
 use mathlib.Core.Path.{_≡_, refl, _∙_}
+use mathlib.Core.Option.{some}
 use native.Mathlib.Omega.{arith}
 use Rattle.image.specs.Name.{Name}
-use Rattle.crash.specs.Reference.{Value, made}
-use Rattle.crash.specs.Slots.{Slot, State, Payload, Inv}
+use Rattle.crash.specs.Slots.{Value, Slot, State, Payload, Inv}
 use Rattle.crash.specs.Steps.{entry, filled, after, New}
 use Rattle.crash.specs.OneSlot.{slotty}
 use Rattle.crash.specs.Versions.{uid-name}
@@ -19,7 +19,7 @@ module _ {e s : ℕ} {k : Name} {v : Value} {now before : ℕ} {st : State} {g :
       omega (arith, t .no-later (a .at) (a .holds .filled) (uid-name i (a .at) m (a .holds .filled) (p .0) (a .holds .uid-is) ∙ q))
 
   -- the new entry
-  write : Write made e s (suc (st .uid)) k v (entry 1 e (st .uid) k v) 0 now before st
+  write : Write e s (suc (st .uid)) k (some v) (entry 1 e (st .uid) k v) 0 now before st
   write = record {
     operation = t .operation;
     joins = t .joins;
@@ -29,7 +29,7 @@ module _ {e s : ℕ} {k : Name} {v : Value} {now before : ℕ} {st : State} {g :
     named = t .named;
     uid-below = omega arith;
     not-retired = refl;
-    tells = tells-value (omega arith) refl refl;
+    tells = tells-value (omega arith) refl;
   }
 
   -- no slot has its uid, and none shows its name from e on
@@ -39,5 +39,5 @@ module _ {e s : ℕ} {k : Name} {v : Value} {now before : ℕ} {st : State} {g :
     lone = λ d l w q. omega (slotty, given-way m (w .payload) q);
   }
 
-  pub new-inv : Inv (after st g (suc (st .uid)) e made k v)
+  pub new-inv : Inv (after st g (suc (st .uid)) e k (some v))
   new-inv = write-inv i write (t .put) (λ m _. behind m) (omega arith) (λ m _ h w. absurd (omega arith))

@@ -2,29 +2,28 @@
 use Prim.Native.Nat.{ℕ, _≤_, _<_}
 use mathlib.Core.Path.{_≡_, refl, sym}
 use mathlib.Core.Logic.{_≢_, _⊎_, inl, inr, _↔_}
-use mathlib.Core.Option.{some}
+use mathlib.Core.Option.{Option, some}
 use native.Mathlib.Omega.{arith}
 use Rattle.image.specs.Name.{Name}
 use Rattle.crash.specs.Table.{Any, every-put2, pairwise-put2, any-first, any-second, any-keep2, any-case2}
-use Rattle.crash.specs.Reference.{Value, Act, leaves}
 use Rattle.crash.specs.Laws.{late-snoc, shown-step}
-use Rattle.crash.specs.Slots.{Entry, Slot, State, Visible, Sees, Shows, One, Underway, Two, Next, Inv}
+use Rattle.crash.specs.Slots.{Value, Entry, Slot, State, Visible, Sees, Shows, One, Underway, Two, Next, Inv}
 use Rattle.crash.specs.Steps.{entry, filled, retiring, after, Successor, updates, removes, Over}
 use Rattle.crash.specs.OneSlot.{slotty}
 use Rattle.crash.specs.Versions.{current-newest, current-lone}
 use Rattle.crash.specs.Write.{own-unseen, Tells, tells-value, tells-nothing, Write, Behind, write-one, write-underway, write-tells, write-two}
 
 -- the kind and what is left, of a set and of a delete
-outcome-kind : {kind : ℕ} {act : Act} {v u : Value} → Successor kind act v u → (2 ≤ kind) × (kind ≤ 3)
+outcome-kind : {kind : ℕ} {v : Value} {u : Option Value} → Successor kind v u → (2 ≤ kind) × (kind ≤ 3)
 outcome-kind (updates v) = omega arith
-outcome-kind (removes v u) = omega arith
+outcome-kind (removes v) = omega arith
 
-successor-tells : {kind : ℕ} {act : Act} {v u : Value} (e uid : ℕ) (k : Name) → Successor kind act v u → Tells act u (entry kind e uid k v)
-successor-tells e uid k (updates v) = tells-value (omega arith) refl refl
-successor-tells e uid k (removes v u) = tells-nothing (λ p. omega arith) refl
+successor-tells : {kind : ℕ} {v : Value} {u : Option Value} (e uid : ℕ) (k : Name) → Successor kind v u → Tells u (entry kind e uid k v)
+successor-tells e uid k (updates v) = tells-value (omega arith) refl
+successor-tells e uid k (removes v) = tells-nothing (λ p. omega arith) refl
 
-module _ {kind : ℕ} {act : Act} {e s r : ℕ} {v u : Value} {now before : ℕ} {st : State} {g : ℕ → Slot} (i : Inv st)
-    (t : Over kind act e s r v u now before st g) where
+module _ {kind e s r : ℕ} {v : Value} {u : Option Value} {now before : ℕ} {st : State} {g : ℕ → Slot} (i : Inv st)
+    (t : Over kind e s r v u now before st g) where
   abbrev old : Slot
   old = st .slots r
 
@@ -38,7 +37,7 @@ module _ {kind : ℕ} {act : Act} {e s r : ℕ} {v u : Value} {now before : ℕ}
   new = filled x now before (st .slots s)
 
   -- ---- the new version
-  write : Write act e s (st .uid) name u x 0 now before st
+  write : Write e s (st .uid) name u x 0 now before st
   write =
       let one = i .one r in record {
         operation = t .of .operation;
@@ -102,15 +101,15 @@ module _ {kind : ℕ} {act : Act} {e s r : ℕ} {v u : Value} {now before : ℕ}
     any-case2 (t .put) (λ q. absurd (own-unseen (write .own) h q)) (λ q. record { at = r; holds = old-sees h .1 q }) (λ m _ _ q. record { at = m; holds = q }),
   )
 
-  -- from e on the job is shown as the act leaves it
-  loud : (d : ℕ) → e ≤ d → (w : Value) → Shows g d name w ↔ (leaves act u ≡ some w)
+  -- from e on the job is shown as the row has it
+  loud : (d : ℕ) → e ≤ d → (w : Value) → Shows g d name w ↔ (u ≡ some w)
   loud d l w = (
     any-case2 (t .put) (write-tells i write d l w .0) (λ q. absurd (behind-old .lone d l (q .visible) (q .name-is)))
         (λ m _ h q. absurd (behind m h .lone d l (q .visible) (q .name-is))),
     λ q. any-first (t .put) (write-tells i write d l w .1 q),
   )
 
-  pub over-inv : Inv (after st g (st .uid) e act name u)
+  pub over-inv : Inv (after st g (st .uid) e name u)
   over-inv =
       let a = write-two i write (retiring e old) behind-old in record {
         clock-lo = i .clock-lo;

@@ -3,41 +3,25 @@
 -- row's entries of present operations, in order: new and set give the key the value, delete takes it away."
 use Prim.Native.Nat.{ℕ}
 use mathlib.Core.List.{List, [], _∷_}
-use mathlib.Core.Option.{Option, none, some}
+use mathlib.Core.Option.{Option}
 use mathlib.Core.Bool.{cond}
 use lib.Dec.{leb}
 use Rattle.image.specs.Name.{Name, sameName}
 
-abbrev pub Value : Type 0
-Value = List ℕ
-
-pub data Act : Type 0 where
-  made altered dropped : Act
-
--- one entry of the row: `epoch` is its operation's
+-- one entry of the row: `epoch` is its operation's; "new and set give the key the value, delete takes it away"
 pub record Change : Type 0 where
   pub epoch : ℕ
-  pub act : Act
   pub name : Name
-  pub value : Value
+  pub value : Option (List ℕ)
 
 -- jobs by name
 abbrev pub Jobs : Type 0
-Jobs = Name → Option Value
-
--- "new and set give the key the value, delete takes it away"
-abbrev pub leaves : Act → Value → Option Value
-leaves made v = some v
-leaves altered v = some v
-leaves dropped v = none
+Jobs = Name → Option (List ℕ)
 
 abbrev pub applied : Change → Jobs → Jobs
-applied ch jobs = λ k. cond (sameName k (ch .name)) (leaves (ch .act) (ch .value)) (jobs k)
+applied ch jobs = λ k. cond (sameName k (ch .name)) (ch .value) (jobs k)
 
--- the entries of operations whose epoch is at most e, in order
-abbrev pub played : ℕ → Jobs → List Change → Jobs
-played e jobs [] = jobs
-played e jobs (ch ∷ row) = played e (cond (leb (ch .epoch) e) (applied ch jobs) jobs) row
-
+-- the starting jobs changed by the entries of operations whose epoch is at most e, in order
 unfoldable pub jobsAt : ℕ → Jobs → List Change → Jobs
-jobsAt e start row = played e start row
+jobsAt e jobs [] = jobs
+jobsAt e jobs (ch ∷ row) = jobsAt e (cond (leb (ch .epoch) e) (applied ch jobs) jobs) row

@@ -7,7 +7,11 @@ use mathlib.Core.Option.{some}
 use Rattle.image.specs.Layout.{mostNumber}
 use Rattle.image.specs.Name.{Name, Named, name-same}
 use Rattle.crash.specs.Table.{Pairwise, Every, Any}
-use Rattle.crash.specs.Reference.{Value, Jobs, Change, jobsAt}
+use Rattle.crash.specs.Reference.{Jobs, Change, jobsAt}
+
+-- a job's value: its words
+abbrev pub Value : Type 0
+Value = List ℕ
 
 -- a header and its contents
 pub record Entry : Type 0 where

@@ -2,13 +2,12 @@
 use Prim.Native.Nat.{ℕ, suc, _+_, _≤_, _<_}
 use mathlib.Core.Path.{_≡_}
 use mathlib.Core.Logic.{_≢_, _⊎_, _↔_}
-use mathlib.Core.Option.{some}
+use mathlib.Core.Option.{Option, none, some}
 use mathlib.Core.List.{[], _∷_, _++_}
 use Rattle.image.specs.Layout.{mostNumber}
 use Rattle.image.specs.Name.{Name, Named}
 use Rattle.crash.specs.Table.{Put, Put2, Pairwise}
-use Rattle.crash.specs.Reference.{Value, Act, altered, dropped}
-use Rattle.crash.specs.Slots.{Entry, Slot, Place, State, Filled, Payload, Proper, SameHead, SameLine, Shows, Swept, Flushed}
+use Rattle.crash.specs.Slots.{Value, Entry, Slot, Place, State, Filled, Payload, Proper, SameHead, SameLine, Shows, Swept, Flushed}
 
 abbrev pub entry : ℕ → ℕ → ℕ → Name → Value → Entry
 entry k e u n v = record { kind = k; epoch = e; uid = u; name = n; value = v }
@@ -45,15 +44,15 @@ ticked a = record { working = a .working; persistent = a .persistent; retired = 
 
 -- ---- states after a change
 -- a change by an operation of epoch e
-abbrev pub after : State → (ℕ → Slot) → ℕ → ℕ → Act → Name → Value → State
-after st g uid e act k v =
+abbrev pub after : State → (ℕ → Slot) → ℕ → ℕ → Name → Option Value → State
+after st g uid e k v =
     record {
       slots = g;
       clock = st .clock;
       uid = uid;
       place = st .place;
       start = st .start;
-      row = st .row ++ (record { epoch = e; act = act; name = k; value = v } ∷ []);
+      row = st .row ++ (record { epoch = e; name = k; value = v } ∷ []);
     }
 
 -- a change that the reference map does not see
@@ -98,13 +97,13 @@ pub record Current (e r : ℕ) (st : State) : Type 0 where
   pub current : st .slots r .retired ≡ 0
 
 -- a set by a new UPDATE, or a delete by a new DELETE, in slot s, of the older version in r
--- v is the value in the slot, u that of the row
-pub data Successor : ℕ → Act → Value → Value → Type 0 where
-  updates : (v : Value) → Successor 2 altered v v
-  removes : (v u : Value) → Successor 3 dropped v u
+-- v is the value in the slot, u what the row has
+pub data Successor : ℕ → Value → Option Value → Type 0 where
+  updates : (v : Value) → Successor 2 v (some v)
+  removes : (v : Value) → Successor 3 v none
 
-pub record Over (kind : ℕ) (act : Act) (e s r : ℕ) (v u : Value) (now before : ℕ) (st : State) (g : ℕ → Slot) : Type 0 where
-  pub outcome : Successor kind act v u
+pub record Over (kind e s r : ℕ) (v : Value) (u : Option Value) (now before : ℕ) (st : State) (g : ℕ → Slot) : Type 0 where
+  pub outcome : Successor kind v u
   pub of : Current e r st
   pub joins : Joins (st .clock) e now before (st .slots s)
   pub free : st .slots s .working .kind ≡ 0

@@ -6,8 +6,8 @@ use mathlib.Core.Option.{some}
 use native.Mathlib.Omega.{arith}
 use native.Mathlib.Decide.{decLe}
 use Rattle.image.specs.Name.{Name}
-use Rattle.crash.specs.Reference.{Value, jobsAt}
-use Rattle.crash.specs.Slots.{Entry, Slot, State, Proper, Visible, Shows, One, Inv}
+use Rattle.crash.specs.Reference.{jobsAt}
+use Rattle.crash.specs.Slots.{Value, Entry, Slot, State, Proper, Visible, Shows, One, Inv}
 use Rattle.crash.specs.Steps.{ticked, tickedState, Tick}
 use Rattle.crash.specs.Laws.{jobs-agree}
 use Rattle.crash.specs.OneSlot.{slotty, rest-underway}

@@ -1,13 +1,13 @@
 -- A delete in the epoch of the version itself, which turns into a DELETE, keeps the invariant.
 use Prim.Native.Nat.{ℕ}
 use mathlib.Core.Path.{refl}
+use mathlib.Core.Option.{none}
 use native.Mathlib.Omega.{arith}
-use Rattle.crash.specs.Reference.{Value, dropped}
 use Rattle.crash.specs.Slots.{Slot, State, Inv}
 use Rattle.crash.specs.Steps.{after, turned, InPlace}
 use Rattle.crash.specs.InPlace.{kept-uid-inv}
 use Rattle.crash.specs.Write.{tells-nothing}
 
-pub turn-inv : (v : Value) → {e r now before : ℕ} {st : State} {g : ℕ → Slot} → Inv st → InPlace (turned (st .slots r .working)) e r now before st g
-    → Inv (after st g (st .uid) e dropped (st .slots r .working .name) v)
-turn-inv v i t = kept-uid-inv i t (omega arith) (omega arith) (tells-nothing (λ p. omega arith) refl)
+pub turn-inv : {e r now before : ℕ} {st : State} {g : ℕ → Slot} → Inv st → InPlace (turned (st .slots r .working)) e r now before st g
+    → Inv (after st g (st .uid) e (st .slots r .working .name) none)
+turn-inv i t = kept-uid-inv i t (omega arith) (omega arith) (tells-nothing (λ p. omega arith) refl)

@@ -2,20 +2,20 @@
 use Prim.Native.Nat.{ℕ}
 use mathlib.Core.Path.{refl, sym}
 use mathlib.Core.Logic.{_≢_}
+use mathlib.Core.Option.{none}
 use native.Mathlib.Omega.{arith}
-use Rattle.crash.specs.Reference.{Value, dropped}
 use Rattle.crash.specs.Slots.{Slot, State, Filled, Inv}
 use Rattle.crash.specs.Steps.{after, Unmake}
 use Rattle.crash.specs.InPlace.{in-place-inv}
 use Rattle.crash.specs.Versions.{current-newest}
 use Rattle.crash.specs.Write.{tells-nothing}
 
-module _ (v : Value) {e r now before : ℕ} {st : State} {g : ℕ → Slot} (i : Inv st) (t : Unmake e r now before st g) where
+module _ {e r now before : ℕ} {st : State} {g : ℕ → Slot} (i : Inv st) (t : Unmake e r now before st g) where
   -- a current ALLOC is both the newest of its uid and the first
   only : (m : ℕ) → m ≢ r → Filled (st .slots m .working) → st .slots m .working .uid ≢ st .slots r .working .uid
   only m h p u = omega (arith, current-newest i (t .change .of) m h p u)
 
-  pub unmake-inv : Inv (after st g (st .uid) e dropped (st .slots r .working .name) v)
+  pub unmake-inv : Inv (after st g (st .uid) e (st .slots r .working .name) none)
   unmake-inv = in-place-inv i (t .change)
       (record { epoch-is = λ h. absurd (omega arith); name-is = λ h. absurd (omega arith) })
       (omega arith)

@@ -2,14 +2,13 @@
 use Prim.Native.Nat.{ℕ, _+_, _≤_, _<_}
 use mathlib.Core.Path.{_≡_, ap, sym, _∙_}
 use mathlib.Core.Logic.{_≢_, _⊎_, inl, inr, _↔_}
-use mathlib.Core.Option.{none, some}
+use mathlib.Core.Option.{Option, none, some}
 use native.Mathlib.Omega.{arith}
 use native.Mathlib.Decide.{ℕ-discrete}
 use Rattle.image.specs.Name.{Name, Named}
 use Rattle.crash.specs.Table.{Put, Any, every-put, pairwise-put, any-new, any-keep, any-case}
-use Rattle.crash.specs.Reference.{Value, Act, leaves}
 use Rattle.crash.specs.Laws.{late-snoc, shown-step}
-use Rattle.crash.specs.Slots.{Entry, Slot, State, Filled, Payload, Proper, Visible, Sees, Shows, One, Underway, Kin, Two, Next, Inv}
+use Rattle.crash.specs.Slots.{Value, Entry, Slot, State, Filled, Payload, Proper, Visible, Sees, Shows, One, Underway, Kin, Two, Next, Inv}
 use Rattle.crash.specs.Steps.{after, Operation, Joins}
 use Rattle.crash.specs.OneSlot.{slotty}
 
@@ -30,17 +29,17 @@ pub own-unseen : {e : ℕ} {k : Name} {a : Slot} {d : ℕ} {j : Name} {w : Value
 own-unseen o (inl l) h = omega (arith, o .epoch-is (h .visible .payload .0))
 own-unseen o (inr l) h = l (sym (h .name-is) ∙ o .name-is (h .visible .payload .0))
 
--- what the act leaves is what the entry shows: the value v, or nothing
-pub data Tells (act : Act) (v : Value) (x : Entry) : Type 0 where
-  tells-value : Payload x → x .value ≡ v → leaves act v ≡ some v → Tells act v x
-  tells-nothing : ¬ Payload x → leaves act v ≡ none → Tells act v x
+-- what the row has is what the entry shows: its value, or nothing
+pub data Tells (v : Option Value) (x : Entry) : Type 0 where
+  tells-value : Payload x → v ≡ some (x .value) → Tells v x
+  tells-nothing : ¬ Payload x → v ≡ none → Tells v x
 
 -- the slot after the write; `filled` and `rewritten` compute to it
 abbrev pub written : Entry → ℕ → ℕ → ℕ → Slot → Slot
 written x retired now before a = record { working = x; persistent = a .persistent; retired = retired; now = now; before = before }
 
 -- the entry x takes the place of a free one, or of one of the same epoch and job; `uid` is the next uid after it
-pub record Write (act : Act) (e s uid : ℕ) (k : Name) (v : Value) (x : Entry) (retired now before : ℕ) (st : State) : Type 0 where
+pub record Write (e s uid : ℕ) (k : Name) (v : Option Value) (x : Entry) (retired now before : ℕ) (st : State) : Type 0 where
   pub operation : Operation e st
   pub joins : Joins (st .clock) e now before (st .slots s)
   pub was : Own e k (st .slots s .working)
@@ -49,7 +48,7 @@ pub record Write (act : Act) (e s uid : ℕ) (k : Name) (v : Value) (x : Entry) 
   pub named : Named k
   pub uid-below : x .uid < uid
   pub not-retired : retired ≡ 0
-  pub tells : Tells act v x
+  pub tells : Tells v x
 
 -- of one uid, b is the newer version
 abbrev pub Newer : Slot → Slot → Type 0
@@ -68,8 +67,8 @@ pub record Behind (e : ℕ) (k : Name) (b a : Slot) : Type 0 where
 one-uid : {c u u′ : ℕ} {a : Slot} → u ≤ u′ → One c u a → One c u′ a
 one-uid h w = search arith
 
-module _ {act : Act} {e s uid : ℕ} {k : Name} {v : Value} {x : Entry} {retired now before : ℕ} {st : State} (i : Inv st)
-    (t : Write act e s uid k v x retired now before st) where
+module _ {e s uid : ℕ} {k : Name} {v : Option Value} {x : Entry} {retired now before : ℕ} {st : State} (i : Inv st)
+    (t : Write e s uid k v x retired now before st) where
   abbrev old : Slot
   old = st .slots s
 
@@ -114,11 +113,11 @@ module _ {act : Act} {e s uid : ℕ} {k : Name} {v : Value} {x : Entry} {retired
     half = λ h l q. absurd (omega (arith, t .operation .quiet-half (own-before (t .own) (t .proper) q)));
   }
 
-  -- from e on the slot shows what the act leaves
-  pub write-tells : (d : ℕ) → e ≤ d → (w : Value) → Sees d k w new ↔ (leaves act v ≡ some w)
+  -- from e on the slot shows what the row has
+  pub write-tells : (d : ℕ) → e ≤ d → (w : Value) → Sees d k w new ↔ (v ≡ some w)
   write-tells d l w = elim (t .tells) [
-    | tells-value p a b ↦ (
-      λ q. b ∙ ap some (sym a ∙ q .value-is),
+    | tells-value p a ↦ (
+      λ q. a ∙ ap some (q .value-is),
       λ q. record { visible = omega (slotty, t .own .epoch-is (p .0)); name-is = t .own .name-is (p .0); value-is = cc },
     )
     | tells-nothing p b ↦ (λ q. absurd (p (q .visible .payload)), λ q. let z : _≡_ {A = ℕ} 0 1 = cc in absurd (omega arith))
@@ -146,14 +145,14 @@ module _ {act : Act} {e s uid : ℕ} {k : Name} {v : Value} {x : Entry} {retired
       any-case put (λ q. absurd (own-unseen (t .own) h q)) (λ m _ q. record { at = m; holds = q }),
     )
 
-    -- from e on the job is shown as the act leaves it
-    loud : (d : ℕ) → e ≤ d → (w : Value) → Shows g d k w ↔ (leaves act v ≡ some w)
+    -- from e on the job is shown as the row has it
+    loud : (d : ℕ) → e ≤ d → (w : Value) → Shows g d k w ↔ (v ≡ some w)
     loud d l w = (
       any-case put (write-tells d l w .0) (λ m h q. absurd (behind m h .lone d l (q .visible) (q .name-is))),
       λ q. any-new put (write-tells d l w .1 q),
     )
 
-    pub write-inv : st .uid ≤ uid → ((m : ℕ) → m ≢ s → Heir old new (st .slots m)) → Inv (after st g uid e act k v)
+    pub write-inv : st .uid ≤ uid → ((m : ℕ) → m ≢ s → Heir old new (st .slots m)) → Inv (after st g uid e k v)
     write-inv uids heir = record {
       clock-lo = i .clock-lo;
       uid-lo = omega (arith, i .uid-lo);

@@ -5,13 +5,12 @@ use mathlib.Core.List.{List}
 use lib.Dec.{leb, ltb, eqb}
 use Rattle.search.specs.First.{firstOf, whereFound}
 use Rattle.search.specs.Some.{anyOf}
-use Rattle.search.specs.declared.Found.{Found}
 use Rattle.reply.specs.declared.Check.{Check}
-use Rattle.reply.specs.declared.Check.the-variants.{Accepted}
+use Rattle.reply.specs.declared.Check.the-variants.{Accepted, Refused}
 use Rattle.reply.specs.declared.Refusal.the-variants.{StillOpen, LastEpoch}
-use Rattle.reply.specs.Refusals.{refuse, declinedNumber}
-use Rattle.image.specs.Layout.{mostNumber, payloadKind, header, clockOf, freeHeader}
-use Rattle.image.specs.Line.{headerLine, clockLine, heldHeader, heldContents, storeLine}
+use Rattle.reply.specs.Refusals.{refuse, byCheck, declinedNumber}
+use Rattle.image.specs.Layout.{mostNumber, payloadKind, header, contents, clockOf, freeHeader}
+use Rattle.image.specs.Line.{headerLine, contentsLine, clockLine, storeLine}
 use Rattle.transient.specs.declared.sizes.Sizes.{Sizes}
 use Rattle.transient.specs.Layout.{note, phaseAt, placeAt, openEpoch, retiredIn, isWaiting, setRetired, setPlace, emptied}
 use Rattle.transient.specs.Store.{Store, Table, store, tableOf, sizesOf, Outcome, outcome, afterCheck}
@@ -59,9 +58,6 @@ due z tb c s =
     (payloadKind (header (tb .working) s .kind) && (not (eqb (retiredIn z (tb .transient) s) 0) && eqb (retiredIn z (tb .transient) s + 2) c))
     || (eqb (header (tb .working) s .kind) 3 && eqb (header (tb .working) s .epoch + 3) c)
 
-unfoldable pub dueFrom : Sizes → Table → ℕ → ℕ → Found
-dueFrom z tb c p = firstOf (λ s. leb p s && due z tb c s) (z .n)
-
 unfoldable pub reclaimed : Sizes → Store → ℕ → Stepped
 reclaimed z st s =
     stepped WentOn (storeLine (st .working) (headerLine s freeHeader)) (storeLine (st .persistent) (headerLine s freeHeader))
@@ -69,16 +65,15 @@ reclaimed z st s =
 
 -- ---- step 2: "In slot order, each slot of the waiting list of c − 1: its contents line, then its mark line, as working holds
 -- them then."
-unfoldable pub waitingFrom : Sizes → List ℕ → ℕ → ℕ → Found
-waitingFrom z tr c p = firstOf (λ s. leb p s && isWaiting z tr (c - 1) s) (z .n)
-
 unfoldable pub contentsFlushed : Sizes → Store → ℕ → Stepped
 contentsFlushed z st s =
-    stepped WentOn (st .working) (storeLine (st .persistent) (heldContents (st .working) (z .n) (z .w) s)) (st .transient) (place headerNext s)
+    stepped WentOn (st .working) (storeLine (st .persistent) (contentsLine (z .n) (z .w) s (contents (st .working) (z .n) (z .w) s))) (st .transient)
+    (place headerNext s)
 
 unfoldable pub headerFlushed : Sizes → Store → ℕ → Stepped
 headerFlushed z st s =
-    stepped WentOn (st .working) (storeLine (st .persistent) (heldHeader (st .working) s)) (st .transient) (passing (z .n) s contentsNext clockNext)
+    stepped WentOn (st .working) (storeLine (st .persistent) (headerLine s (header (st .working) s))) (st .transient)
+    (passing (z .n) s contentsNext clockNext)
 
 -- ---- step 3: "The clock becomes c + 1 in both images and that list is emptied."
 unfoldable pub ticking : Sizes → Store → ℕ → Stepped
@@ -88,10 +83,10 @@ ticking z st c =
 
 -- ---- the next line, from a place on
 unfoldable pub flushFrom : Sizes → Store → ℕ → ℕ → Stepped
-flushFrom z st c p = whereFound (waitingFrom z (st .transient) c p) (contentsFlushed z st) (ticking z st c)
+flushFrom z st c p = whereFound (firstOf (λ s. leb p s && isWaiting z (st .transient) (c - 1) s) (z .n)) (contentsFlushed z st) (ticking z st c)
 
 unfoldable pub reclaimFrom : Sizes → Store → ℕ → ℕ → Stepped
-reclaimFrom z st c p = whereFound (dueFrom z (tableOf st) c p) (reclaimed z st) (flushFrom z st c 0)
+reclaimFrom z st c p = whereFound (firstOf (λ s. leb p s && due z (tableOf st) c s) (z .n)) (reclaimed z st) (flushFrom z st c 0)
 
 -- one step from a place; where none is underway an advance begins
 unfoldable pub step : Sizes → Store → ℕ → Place → Stepped
@@ -103,28 +98,22 @@ step z st c p =
     (reclaimFrom z st c 0))))
 
 -- ---- the call
-unfoldable pub underway : List ℕ → Bool
-underway tr = leb reclaimNext (note phaseAt tr) && leb (note phaseAt tr) clockNext
-
--- an operation open in clock − 1
-unfoldable pub openBelow : List ℕ → ℕ → ℕ → Bool
-openBelow tr t c = anyOf (λ thread. eqb (openEpoch tr thread + 1) c) t
-
 -- 14: "advance, none underway: an operation open in clock − 1"; 15: "advance: clock 4,000,000,000"
-unfoldable pub advanceCheck : Sizes → List ℕ → ℕ → Check
-advanceCheck z tr c = refuse (not (underway tr) && openBelow tr (z .t) c) StillOpen (refuse (eqb c mostNumber) LastEpoch Accepted)
+unfoldable pub advanceCheck : Store → Check
+advanceCheck st =
+    byCheck (entryCheck st) Refused
+    (refuse (not (leb reclaimNext (note phaseAt (st .transient)) && leb (note phaseAt (st .transient)) clockNext)
+    && anyOf (λ thread. eqb (openEpoch (st .transient) thread + 1) (clockOf (st .working))) (sizesOf (tableOf st) .t)) StillOpen
+    (refuse (eqb (clockOf (st .working)) mostNumber) LastEpoch Accepted))
 
 -- the notes keep the place
 abbrev pub noted : Stepped → Outcome Advance
 noted s = outcome (s .reply) (s .store .working) (s .store .persistent) (setPlace (s .store .transient) (s .place .phase) (s .place .slot))
 
-unfoldable pub advanceSized : Sizes → Store → Outcome Advance
-advanceSized z st =
-    afterCheck (advanceCheck z (st .transient) (clockOf (st .working))) Declined st
-    (noted (step z st (clockOf (st .working)) (place (note phaseAt (st .transient)) (note placeAt (st .transient)))))
-
 unfoldable pub advance : Store → Outcome Advance
-advance st = afterCheck (entryCheck st) Declined st (advanceSized (sizesOf (tableOf st)) st)
+advance st =
+    afterCheck (advanceCheck st) Declined st
+    (noted (step (sizesOf (tableOf st)) st (clockOf (st .working)) (place (note phaseAt (st .transient)) (note placeAt (st .transient)))))
 
 -- the reply as one number: 0 went on, 1 ticked, or 2^32 plus the refusal
 abbrev pub advanceNumber : Advance → ℕ

@@ -22,7 +22,8 @@ use Rattle.transient.specs.Requires.{EnteredWith, notes-head, with-entered, ent
 use Rattle.epochs.specs.declared.Place.{Place}
 use Rattle.epochs.specs.declared.Advance.{Advance}
 use Rattle.epochs.specs.declared.Advance.the-variants.{Declined}
-use Rattle.epochs.specs.Advance.{reclaimNext, clockNext, stepped, place, step, underway, openBelow, advanceCheck, noted, advanceSized, advance}
+use Rattle.epochs.specs.Advance.{reclaimNext, clockNext, stepped, place, step, advanceCheck, noted, advance}
+use Rattle.epochs.specs.Stages.{underway, openBelow, heldCheck, advanceSized, advance-is}
 use Rattle.epochs.specs.Requires.{heldOpen, Going}
 use Rattle.epochs.specs.Moved.{notedPlace}
 use Rattle.epochs.specs.Left.{step-goes}
@@ -48,21 +49,21 @@ module _ (z : Sizes) (tr : List ℕ) (c : ℕ) where
     held-is e q = rw (← un, e) q
 
   module _ {h : Bool} (he : h ≡ heldOpen z tr c) where
-    pub check-open : h ≡ true → Refused StillOpen ≡ advanceCheck z tr c
-    unfolding advanceCheck heldOpen
+    pub check-open : h ≡ true → Refused StillOpen ≡ heldCheck z tr c
+    unfolding heldCheck heldOpen
     check-open e = rw (← he, e)
 
-    pub check-last : h ≡ false → c ≡ mostNumber → Refused LastEpoch ≡ advanceCheck z tr c
-    unfolding advanceCheck heldOpen
+    pub check-last : h ≡ false → c ≡ mostNumber → Refused LastEpoch ≡ heldCheck z tr c
+    unfolding heldCheck heldOpen
     check-last e d = rw (← he, e, eq-eqb c mostNumber d)
 
-    pub check-fine : h ≡ false → (c ≡ mostNumber → ⊥) → Accepted ≡ advanceCheck z tr c
-    unfolding advanceCheck heldOpen
+    pub check-fine : h ≡ false → (c ≡ mostNumber → ⊥) → Accepted ≡ heldCheck z tr c
+    unfolding heldCheck heldOpen
     check-fine e d = rw (← he, e, ne-eqb c mostNumber d)
 
   -- an advance that is not refused can raise the clock
-  not-last : advanceCheck z tr c ≡ Accepted → (c ≡ mostNumber → ⊥)
-  unfolding advanceCheck
+  not-last : heldCheck z tr c ≡ Accepted → (c ≡ mostNumber → ⊥)
+  unfolding heldCheck
   not-last a d =
       let first = not-refused (not (underway tr) && openBelow tr (z .t) c) StillOpen (refuse (eqb c mostNumber) LastEpoch Accepted) a in
       let second = not-refused (eqb c mostNumber) LastEpoch Accepted (first .1) in
@@ -89,7 +90,7 @@ module _ (z : Sizes) (wk l tr : List ℕ) (c : ℕ) {phase s : ℕ} (p : phase �
   place-noted e f g i = rw (i, g, f, ← p, ← q) (ap noted e)
 
 -- ---- the call
-module _ (z : Sizes) (wk l tr : List ℕ) {c : ℕ} {k : Check} (ce : c ≡ clockOf wk) (ke : k ≡ advanceCheck z tr c) where
+module _ (z : Sizes) (wk l tr : List ℕ) {c : ℕ} {k : Check} (ce : c ≡ clockOf wk) (ke : k ≡ heldCheck z tr c) where
   pub sized-refused : {r : Refusal} → k ≡ Refused r → outcome (Declined r) wk l tr ≡ advanceSized z (store wk l tr)
   unfolding advanceSized
   sized-refused a = rw (← ce, ← ke, a)
@@ -114,12 +115,11 @@ module _ (z : Sizes) (wk l tr : List ℕ) {c : ℕ} {k : Check} (ce : c ≡ cloc
 
 module _ (wk l tr : List ℕ) {k : Check} (ce : k ≡ entryCheck (store wk l tr)) where
   pub advance-refused : {r : Refusal} → k ≡ Refused r → outcome (Declined r) wk l tr ≡ advance (store wk l tr)
-  unfolding advance
+  unfolding advance advanceCheck
   advance-refused a = rw (← ce, a)
 
   pub advance-goes : {z : Sizes} {x : Outcome Advance} → k ≡ Accepted → z ≡ sizesOf (table wk tr) → x ≡ advanceSized z (store wk l tr) → x ≡ advance (store wk l tr)
-  unfolding advance
-  advance-goes a e h = rw (← ce, a) (rw e at h)
+  advance-goes a e h = rw (advance-is (store wk l tr), ← ce, a) (rw e at h)
 
 pub ruleset checks = (tests, notes-head, underway-not, underway-is, held-not, held-is, check-open, check-last, check-fine)
 

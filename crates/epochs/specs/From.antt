@@ -14,7 +14,8 @@ use Rattle.search.specs.declared.Found.the-variants.{At, Nothing}
 use Rattle.transient.specs.declared.sizes.Sizes.{Sizes}
 use Rattle.transient.specs.Layout.{isWaiting}
 use Rattle.transient.specs.Store.{Table}
-use Rattle.epochs.specs.Advance.{due, dueFrom, waitingFrom}
+use Rattle.epochs.specs.Advance.{due}
+use Rattle.epochs.specs.Stages.{dueFrom, waitingFrom}
 
 unfoldable pub firstFrom : (ℕ → Bool) → ℕ → ℕ → Found
 firstFrom q n p = firstOf (λ s. leb p s && q s) n

@@ -31,9 +31,10 @@ use Rattle.epochs.specs.declared.Place.{Place}
 use Rattle.epochs.specs.declared.Advance.the-variants.{WentOn, Ticked, Declined}
 use Rattle.epochs.specs.declared.Sync.{Sync}
 use Rattle.epochs.specs.declared.Sync.the-variants as sync-reply
-use Rattle.epochs.specs.Advance.{Stepped, reclaimed, contentsFlushed, headerFlushed, ticking, step, underway, openBelow, advanceCheck, noted, advanceSized, advance}
-use Rattle.epochs.specs.Sync.{anyOpen, syncCheck, byReply, syncFrom, mostLines, sync}
+use Rattle.epochs.specs.Advance.{Stepped, reclaimed, contentsFlushed, headerFlushed, ticking, step, noted, advance}
+use Rattle.epochs.specs.Sync.{syncCheck, byReply, syncFrom, mostLines, sync}
 use Rattle.epochs.specs.WriteBack.{writeBack}
+use Rattle.epochs.specs.Stages.{underway, openBelow, heldCheck, advanceSized, advance-is}
 use Rattle.epochs.specs.Moved.{notedPlace}
 use Rattle.epochs.specs.Ways.{every-way, nextStep, advance-way, back-way}
 use Rattle.epochs.specs.Left.{step-goes, advance-moves, budget, budget-top, budget-low, budget-on, budget-tick}
@@ -234,8 +235,8 @@ pub data Onward (k : ℕ) (st : Store) : Type 0 where
   ticked : advance st .reply ≡ Ticked → Quiet k (advance st .store) → Onward k st
 
 -- 14 and 15 pass
-quiet-check : (z : Sizes) (tr : List ℕ) (c : ℕ) → 2 ≤ c → c < mostNumber → ((u : ℕ) → u < z .t → openEpoch tr u ≡ 0) → advanceCheck z tr c ≡ Accepted
-unfolding advanceCheck openBelow
+quiet-check : (z : Sizes) (tr : List ℕ) (c : ℕ) → 2 ≤ c → c < mostNumber → ((u : ℕ) → u < z .t → openEpoch tr u ≡ 0) → heldCheck z tr c ≡ Accepted
+unfolding heldCheck openBelow
 quiet-check z tr c lo hi none =
     let below = none-some (λ u. eqb (openEpoch tr u + 1) c) (z .t) (λ u h. ne-eqb _ c (λ q. omega (arith, none u h))) in
     rw (below, ne-eqb c mostNumber (λ q. omega arith)) (never-held (underway tr))
@@ -249,8 +250,8 @@ module _ (k : ℕ) (st : Store) (q : Quiet (suc k) st) where
   before = entry-with (st .working) (st .persistent) (st .transient) (q .entry)
 
   next-is : advance st ≡ noted (nextStep st)
-  unfolding advance advanceSized nextStep
-  next-is = rw (q .entry, quiet-check (sizesOf (tableOf st)) (st .transient) (clockOf (st .working)) (before .entered .clock-lo) (omega (arith, q .room)) (q .none-open))
+  unfolding advanceSized nextStep
+  next-is = rw (advance-is st, q .entry, quiet-check (sizesOf (tableOf st)) (st .transient) (clockOf (st .working)) (before .entered .clock-lo) (omega (arith, q .room)) (q .none-open))
 
   same : clockOf (st .persistent) ≡ clockOf (st .working)
   same = clocks-agree (st .working) (st .persistent) (st .transient) _ (entry-passes st (q .entry) .clocks)
@@ -296,7 +297,7 @@ advances-done (suc more) (suc k) lines st q e =
 
 -- refusals 1, 2, 14 and 15 passed
 pub check-quiet : (st : Store) → syncCheck st ≡ Accepted → Quiet 2 st
-unfolding syncCheck anyOpen
+unfolding syncCheck
 check-quiet st a =
     let both = both-accepted (entryCheck st) _ a in
     let open-in : ℕ → Bool = λ u. not (eqb (openEpoch (st .transient) u) 0) in

@@ -25,8 +25,9 @@ use Rattle.transient.specs.Passed.{entry-with}
 use Rattle.epochs.specs.declared.Place.{Place}
 use Rattle.epochs.specs.declared.Advance.{Advance}
 use Rattle.epochs.specs.declared.Advance.the-variants.{WentOn, Ticked, Declined}
-use Rattle.epochs.specs.Advance.{idle, reclaimNext, contentsNext, headerNext, clockNext, Stepped, place, passing, dueFrom, reclaimed, waitingFrom, contentsFlushed, headerFlushed, ticking, flushFrom, reclaimFrom, step, noted, advance}
+use Rattle.epochs.specs.Advance.{idle, reclaimNext, contentsNext, headerNext, clockNext, Stepped, place, passing, reclaimed, contentsFlushed, headerFlushed, ticking, flushFrom, reclaimFrom, step, noted, advance}
 use Rattle.epochs.specs.Sync.{mostLines}
+use Rattle.epochs.specs.Stages.{dueFrom, waitingFrom}
 use Rattle.epochs.specs.Moved.{notedPlace}
 use Rattle.epochs.specs.Ways.{nextStep, advance-way}
 use Rattle.epochs.specs.From.{Between, due-between, waiting-between}
@@ -121,7 +122,7 @@ module _ (z : Sizes) (st : Store) (c most : ℕ) where
       }
 
   goes-flush : (p : ℕ) → p < z .n → 2 * (z .n - p) + 1 ≤ most → Goes st (z .n) most (flushFrom z st c p)
-  unfolding flushFrom contentsFlushed left
+  unfolding flushFrom waitingFrom contentsFlushed left
   goes-flush p h m = go (waitingFrom z (st .transient) c p) refl
     where
       go : (f : Found) → waitingFrom z (st .transient) c p ≡ f → Goes st (z .n) most (whereFound f (contentsFlushed z st) (ticking z st c))
@@ -133,7 +134,7 @@ module _ (z : Sizes) (st : Store) (c most : ℕ) where
       go Nothing e = goes-ticking (omega arith)
 
   goes-reclaim : (p : ℕ) → p < z .n → z .n - p + 2 * z .n + 1 ≤ most → Goes st (z .n) most (reclaimFrom z st c p)
-  unfolding reclaimFrom
+  unfolding reclaimFrom dueFrom
   goes-reclaim p h m = go (dueFrom z (tableOf st) c p) refl
     where
       go : (f : Found) → dueFrom z (tableOf st) c p ≡ f → Goes st (z .n) most (whereFound f (reclaimed z st) (flushFrom z st c 0))

@@ -1,6 +1,7 @@
 pub mod Advance
 pub mod Sync
 pub mod WriteBack
+pub mod Stages
 pub mod Requires
 pub mod Moved
 pub mod Ways

@@ -8,8 +8,7 @@ use Rattle.search.specs.First.{sought-start, sought-next}
 use Rattle.search.specs.Some.{anyOf, some-hit, some-end}
 use Rattle.transient.specs.Layout.{openEpoch}
 use Rattle.transient.specs.Requires.{thread-of}
-use Rattle.epochs.specs.Advance.{openBelow}
-use Rattle.epochs.specs.Sync.{anyOpen}
+use Rattle.epochs.specs.Stages.{openBelow, anyOpen}
 use Rattle.epochs.specs.Requires.{isOpen, isOpenBelow}
 
 module _ (tr : List ℕ) where

@@ -20,8 +20,8 @@ use Rattle.transient.specs.Layout.{openEpoch, retiredIn}
 use Rattle.transient.specs.Store.{Table}
 use Rattle.transient.specs.Requires.{Notes, NoteOf, Shaped, ShapedSlot, EnteredWith, note-of, shaped-slot}
 use Rattle.epochs.specs.declared.Place.{Place}
-use Rattle.epochs.specs.Advance.{reclaimNext, underway, openBelow}
-use Rattle.epochs.specs.Sync.{anyOpen}
+use Rattle.epochs.specs.Advance.{reclaimNext}
+use Rattle.epochs.specs.Stages.{underway, openBelow, anyOpen}
 
 -- from slot p on in the waiting list of c - 1
 pub record Waiting (tr : List ℕ) (z : Sizes) (c p : ℕ) : Type 0 where

@@ -11,16 +11,16 @@ use Rattle.search.specs.declared.Found.{Found}
 use Rattle.search.specs.declared.Found.the-variants.{At, Nothing}
 use Rattle.image.specs.declared.header.Header.{Header}
 use Rattle.image.specs.Layout.{mostSlots, payloadKind, header, freeHeader}
-use Rattle.image.specs.Requires.{kindAt}
-use Rattle.image.specs.Line.{headerLine, clockLine, heldHeader, heldContents, storeLine}
-use Rattle.image.specs.Requires.{Slots, slot}
+use Rattle.image.specs.Line.{headerLine, clockLine, storeLine}
+use Rattle.image.specs.Requires.{kindAt, heldHeader, heldContents, Slots, slot}
 use Rattle.transient.specs.declared.sizes.Sizes.{Sizes}
 use Rattle.transient.specs.Layout.{retiredIn, isWaiting, setRetired, emptied}
 use Rattle.transient.specs.Store.{store, table}
 use Rattle.transient.specs.Requires.{ShapedSlot, slot-note, slot-head}
 use Rattle.epochs.specs.declared.Place.{Place}
 use Rattle.epochs.specs.declared.Advance.the-variants.{WentOn, Ticked}
-use Rattle.epochs.specs.Advance.{idle, reclaimNext, contentsNext, headerNext, clockNext, Stepped, stepped, place, passing, due, dueFrom, reclaimed, waitingFrom, contentsFlushed, headerFlushed, ticking, flushFrom, reclaimFrom, step}
+use Rattle.epochs.specs.Advance.{idle, reclaimNext, contentsNext, headerNext, clockNext, Stepped, stepped, place, passing, due, reclaimed, contentsFlushed, headerFlushed, ticking, flushFrom, reclaimFrom, step}
+use Rattle.epochs.specs.Stages.{dueFrom, waitingFrom}
 use Rattle.epochs.specs.Requires.{retiredDue, payloadDue, Freed, reclaimAt, Waiting, Going, slots-first, slots-second, waiting-note, going-advancing, going-first, requires-laws}
 use Rattle.epochs.specs.From.{From, from-start, froms, pairs, due-is, due-between, waiting-is, waiting-between}
 
@@ -141,19 +141,19 @@ module _ (z : Sizes) (wk l tr : List ℕ) where
   module _ (c p : ℕ) {f : Found} where
     pub flush-line : {s : ℕ} {l′ : List ℕ} → f ≡ waitingFrom z tr c p → f ≡ At s → l′ ≡ storeLine l (heldContents wk (z .n) (z .w) s)
         → stepped WentOn wk l′ tr (place headerNext s) ≡ flushFrom z (store wk l tr) c p
-    unfolding flushFrom contentsFlushed
+    unfolding flushFrom waitingFrom contentsFlushed
     flush-line fe a e = rw (← fe, a, e)
 
     pub flush-tick : {x : Stepped} → f ≡ waitingFrom z tr c p → f ≡ Nothing → x ≡ ticking z (store wk l tr) c → x ≡ flushFrom z (store wk l tr) c p
-    unfolding flushFrom
+    unfolding flushFrom waitingFrom
     flush-tick fe a e = rw (← fe, a) e
 
     pub reclaim-one : {s : ℕ} {x : Stepped} → f ≡ dueFrom z (table wk tr) c p → f ≡ At s → x ≡ reclaimed z (store wk l tr) s → x ≡ reclaimFrom z (store wk l tr) c p
-    unfolding reclaimFrom
+    unfolding reclaimFrom dueFrom
     reclaim-one fe a e = rw (← fe, a) e
 
     pub reclaim-none : {x : Stepped} → f ≡ dueFrom z (table wk tr) c p → f ≡ Nothing → x ≡ flushFrom z (store wk l tr) c 0 → x ≡ reclaimFrom z (store wk l tr) c p
-    unfolding reclaimFrom
+    unfolding reclaimFrom dueFrom
     reclaim-none fe a e = rw (← fe, a) e
 
   -- by the phase

@@ -1,8 +1,7 @@
 -- 01: "Sync equals advance calls repeated until two ticks have happened (one underway counts), and reports done with the number of
 -- lines stored."
 use Prim.Native.Nat.{ℕ, zero, suc, _+_, _*_, _-_}
-use mathlib.Core.Bool.{Bool, not}
-use mathlib.Core.List.{List}
+use mathlib.Core.Bool.{not}
 use lib.Dec.{ltb, eqb}
 use Rattle.search.specs.Some.{anyOf}
 use Rattle.reply.specs.declared.Check.{Check}
@@ -21,13 +20,11 @@ use Rattle.epochs.specs.declared.Sync.the-variants as sync-reply
 use Rattle.epochs.specs.Advance.{advance}
 
 -- 14: "sync: any operation open"; 15: "sync: clock above 3,999,999,998"
-unfoldable pub anyOpen : List ℕ → ℕ → Bool
-anyOpen tr t = anyOf (λ thread. not (eqb (openEpoch tr thread) 0)) t
-
 unfoldable pub syncCheck : Store → Check
 syncCheck st =
     byCheck (entryCheck st) Refused
-    (refuse (anyOpen (st .transient) (sizesOf (tableOf st) .t)) StillOpen (refuse (ltb (mostNumber - 2) (clockOf (st .working))) LastEpoch Accepted))
+    (refuse (anyOf (λ thread. not (eqb (openEpoch (st .transient) thread) 0)) (sizesOf (tableOf st) .t)) StillOpen
+    (refuse (ltb (mostNumber - 2) (clockOf (st .working))) LastEpoch Accepted))
 
 -- by an advance call's reply
 abbrev pub byReply : {S A : Type 0} → Advance → (S → A) → (S → A) → (Refusal → S → A) → S → A

@@ -27,7 +27,8 @@ use Rattle.epochs.specs.declared.Advance.the-variants.{WentOn, Ticked, D
 use Rattle.epochs.specs.declared.Sync.{Sync}
 use Rattle.epochs.specs.declared.Sync.the-variants as sync-reply
 use Rattle.epochs.specs.Advance.{advance}
-use Rattle.epochs.specs.Sync.{anyOpen, syncCheck, syncFrom, mostLines, sync}
+use Rattle.epochs.specs.Sync.{syncCheck, syncFrom, mostLines, sync}
+use Rattle.epochs.specs.Stages.{anyOpen}
 use Rattle.epochs.specs.Left.{Moves, advance-moves, budget, budget-top, budget-low, budget-on, budget-tick}
 use Rattle.epochs.specs.Requires.{readyCheck}
 
@@ -52,7 +53,7 @@ module _ (wk l tr : List ℕ) {k : Check} (ce : k ≡ entryCheck (store wk l tr)
   check-refused a = rw (← ce, a)
 
   pub check-ready : {z : Sizes} {q : Check} → k ≡ Accepted → z ≡ sizesOf (table wk tr) → q ≡ readyCheck wk tr (z .t) → q ≡ syncCheck (store wk l tr)
-  unfolding syncCheck readyCheck
+  unfolding syncCheck readyCheck anyOpen
   check-ready a e h = rw (← ce, a) (rw e at h)
 
 -- ---- the calls so far

@@ -13,21 +13,23 @@ use Rattle.reply.specs.declared.Refusal.{Refusal}
 use Rattle.reply.specs.declared.Refusal.the-variants.{NoLine}
 use Rattle.reply.specs.Refusals.{refuse}
 use Rattle.image.specs.Layout.{clockOf}
-use Rattle.image.specs.Line.{Line, heldHeader, heldContents, storeLine}
+use Rattle.image.specs.Line.{Line, storeLine}
+use Rattle.image.specs.Requires.{heldHeader, heldContents}
 use Rattle.transient.specs.declared.sizes.Sizes.{Sizes}
 use Rattle.transient.specs.Store.{Store, tableOf, sizesOf, Outcome, outcome, afterCheck}
 use Rattle.transient.specs.Entry.{entryCheck}
 use Rattle.epochs.specs.declared.Place.{Place}
 use Rattle.epochs.specs.declared.Advance.{Advance}
 use Rattle.epochs.specs.declared.Advance.the-variants.{Declined}
-use Rattle.epochs.specs.Advance.{reclaimNext, contentsNext, headerNext, clockNext, Stepped, dueFrom, reclaimed, waitingFrom, contentsFlushed, headerFlushed, ticking, flushFrom, reclaimFrom, step, advanceCheck, noted, advanceSized, advance}
-use Rattle.epochs.specs.WriteBack.{writeBackSized, writeBack}
+use Rattle.epochs.specs.Advance.{reclaimNext, contentsNext, headerNext, clockNext, Stepped, reclaimed, contentsFlushed, headerFlushed, ticking, flushFrom, reclaimFrom, step, noted, advance}
+use Rattle.epochs.specs.WriteBack.{writeBack}
+use Rattle.epochs.specs.Stages.{dueFrom, waitingFrom, heldCheck, advanceSized, advance-is, writeBackSized, write-back-is}
 use Rattle.epochs.specs.Moved.{notedPlace}
 
 module _ (P : Stepped → Type 0) (z : Sizes) (st : Store) (c : ℕ) (reclaims : (s : ℕ) → P (reclaimed z st s)) (line : (s : ℕ) → P (contentsFlushed z st s))
     (head : (s : ℕ) → P (headerFlushed z st s)) (ticks : P (ticking z st c)) where
   flush-way : (p : ℕ) → P (flushFrom z st c p)
-  unfolding flushFrom
+  unfolding flushFrom waitingFrom
   flush-way p = go (waitingFrom z (st .transient) c p)
     where
       go : (f : Found) → P (whereFound f (contentsFlushed z st) (ticking z st c))
@@ -35,7 +37,7 @@ module _ (P : Stepped → Type 0) (z : Sizes) (st : Store) (c : ℕ) (reclaims :
       go Nothing = ticks
 
   reclaim-way : (p : ℕ) → P (reclaimFrom z st c p)
-  unfolding reclaimFrom
+  unfolding reclaimFrom dueFrom
   reclaim-way p = go (dueFrom z (tableOf st) c p)
     where
       go : (f : Found) → P (whereFound f (reclaimed z st) (flushFrom z st c 0))
@@ -60,11 +62,11 @@ unfoldable pub nextStep : Store → Stepped
 nextStep st = step (sizesOf (tableOf st)) st (clockOf (st .working)) (notedPlace (st .transient))
 
 pub advance-way : (P : Outcome Advance → Type 0) (st : Store) → ((r : Refusal) → P (record { reply = Declined r; store = st }))
-    → (entryCheck st ≡ Accepted → advanceCheck (sizesOf (tableOf st)) (st .transient) (clockOf (st .working)) ≡ Accepted → P (noted (nextStep st))) → P (advance st)
-unfolding advance advanceSized nextStep
-advance-way P st declines goes = go (entryCheck st) refl (advanceCheck (sizesOf (tableOf st)) (st .transient) (clockOf (st .working))) refl
+    → (entryCheck st ≡ Accepted → heldCheck (sizesOf (tableOf st)) (st .transient) (clockOf (st .working)) ≡ Accepted → P (noted (nextStep st))) → P (advance st)
+unfolding advanceSized nextStep
+advance-way P st declines goes = rw (advance-is st) (go (entryCheck st) refl (heldCheck (sizesOf (tableOf st)) (st .transient) (clockOf (st .working))) refl)
   where
-    go : (j : Check) → entryCheck st ≡ j → (k : Check) → advanceCheck (sizesOf (tableOf st)) (st .transient) (clockOf (st .working)) ≡ k
+    go : (j : Check) → entryCheck st ≡ j → (k : Check) → heldCheck (sizesOf (tableOf st)) (st .transient) (clockOf (st .working)) ≡ k
         → P (afterCheck j Declined st (afterCheck k Declined st (noted (nextStep st))))
     go (Refused r) a k b = declines r
     go Accepted a (Refused r) b = declines r
@@ -74,8 +76,8 @@ advance-way P st declines goes = go (entryCheck st) refl (advanceCheck (sizesOf 
 pub back-way : (P : Outcome Check → Type 0) (st : Store) (slot code : ℕ) → ((r : Refusal) → P (record { reply = Refused r; store = st }))
     → P (outcome Accepted (st .working) (storeLine (st .persistent) (heldContents (st .working) (sizesOf (tableOf st) .n) (sizesOf (tableOf st) .w) slot)) (st .transient))
     → P (outcome Accepted (st .working) (storeLine (st .persistent) (heldHeader (st .working) slot)) (st .transient)) → P (writeBack st slot code)
-unfolding writeBack writeBackSized
-back-way P st slot code declines contents head = go (entryCheck st) (leb (sizesOf (tableOf st) .n) slot || ltb 1 code) (eqb code 0)
+unfolding writeBackSized
+back-way P st slot code declines contents head = rw (write-back-is st slot code) (go (entryCheck st) (leb (sizesOf (tableOf st) .n) slot || ltb 1 code) (eqb code 0))
   where
     at : Line → Outcome Check
     at k = outcome Accepted (st .working) (storeLine (st .persistent) k) (st .transient)

@@ -7,12 +7,14 @@ use Rattle.reply.specs.declared.Check.{Check}
 use Rattle.reply.specs.declared.Check.the-variants.{Accepted, Refused}
 use Rattle.reply.specs.declared.Refusal.{Refusal}
 use Rattle.reply.specs.declared.Refusal.the-variants.{NoLine}
-use Rattle.image.specs.Line.{heldHeader, heldContents, storeLine}
+use Rattle.image.specs.Line.{storeLine}
+use Rattle.image.specs.Requires.{heldHeader, heldContents}
 use Rattle.transient.specs.declared.sizes.Sizes.{Sizes}
 use Rattle.transient.specs.Store.{store, table, sizesOf, Outcome, outcome}
 use Rattle.transient.specs.Entry.{entryCheck}
 use Rattle.epochs.specs.Requires.{with-slots}
-use Rattle.epochs.specs.WriteBack.{writeBackSized, writeBack}
+use Rattle.epochs.specs.WriteBack.{writeBack}
+use Rattle.epochs.specs.Stages.{writeBackSized, write-back-is}
 
 module _ (z : Sizes) (wk l tr : List ℕ) (slot code : ℕ) where
   pub line-slot : z .n ≤ slot → outcome (Refused NoLine) wk l tr ≡ writeBackSized slot code z (store wk l tr)
@@ -40,7 +42,6 @@ module _ (wk l tr : List ℕ) (slot code : ℕ) {k : Check} (ce : k ≡ entryChe
 
   pub write-goes : {z : Sizes} {s : ℕ} {x : Outcome Check} → k ≡ Accepted → z ≡ sizesOf (table wk tr) → s ≡ slot → x ≡ writeBackSized s code z (store wk l tr)
       → x ≡ writeBack (store wk l tr) slot code
-  unfolding writeBack
-  write-goes a e i h = rw (← ce, a) (rw (e, i) at h)
+  write-goes a e i h = rw (write-back-is (store wk l tr) slot code, ← ce, a) (rw (e, i) at h)
 
 pub ruleset writes = (with-slots, line-slot, line-code, line-contents, line-header, write-refused, write-goes)

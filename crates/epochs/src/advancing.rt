@@ -10,7 +10,8 @@ ghost use lib.ListN.{length};
 ghost use Rattle.transient.specs.Layout.{headWords, note, placeAt};
 ghost use Rattle.transient.specs.Store.{store, outcome};
 ghost use Rattle.transient.specs.Requires.{Notes, EnteredWith};
-ghost use Rattle.epochs.specs.Advance.{step, underway, advanceCheck, noted, advanceSized, advance};
+ghost use Rattle.epochs.specs.Advance.{step, noted, advance};
+ghost use Rattle.epochs.specs.Stages.{underway, heldCheck, advanceSized};
 ghost use Rattle.epochs.specs.Requires.{Going};
 ghost use Rattle.epochs.specs.Moved.{replyOf, notedPlace};
 ghost use Rattle.epochs.specs.Requires.{heldOpen};
@@ -40,7 +41,7 @@ fn held_open(transient: &[u32], z: Sizes, c: u32) -> bool
 // Refusals 14 and 15.
 fn check(transient: &[u32], z: Sizes, c: u32) -> Check
     requires { ⌜ Notes (now transient) z ⌝ }
-    ensures { λ r. ⌜ r ≡ advanceCheck z (now (transient .entry)) c ⌝ }
+    ensures { λ r. ⌜ r ≡ heldCheck z (now (transient .entry)) c ⌝ }
 {
     if held_open(transient, z, c) {
         return Check::Refused(Refusal::StillOpen);

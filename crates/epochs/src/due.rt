@@ -5,7 +5,8 @@ use transient::sizes::Sizes;
 ghost use mathlib.Core.Path.{_≡_};
 ghost use Rattle.transient.specs.Store.{table};
 ghost use Rattle.transient.specs.Requires.{ShapedSlot};
-ghost use Rattle.epochs.specs.Advance.{due, dueFrom, waitingFrom};
+ghost use Rattle.epochs.specs.Advance.{due};
+ghost use Rattle.epochs.specs.Stages.{dueFrom, waitingFrom};
 ghost use Rattle.epochs.specs.Requires.{Waiting};
 ghost use Rattle.epochs.specs.Requires.{retiredDue, payloadDue};
 

@@ -2,8 +2,8 @@
 use image::header::Header;
 use transient::sizes::Sizes;
 ghost use mathlib.Core.Path.{_≡_};
-ghost use Rattle.image.specs.Line.{heldHeader, storeLine};
-ghost use Rattle.image.specs.Requires.{Slots};
+ghost use Rattle.image.specs.Line.{storeLine};
+ghost use Rattle.image.specs.Requires.{heldHeader, Slots};
 ghost use Rattle.epochs.specs.Requires.{Freed};
 
 // A slot's header, as working holds it.

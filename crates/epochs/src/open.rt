@@ -2,8 +2,7 @@
 use transient::sizes::Sizes;
 ghost use mathlib.Core.Path.{_≡_};
 ghost use Rattle.transient.specs.Requires.{Notes, ThreadOf};
-ghost use Rattle.epochs.specs.Advance.{openBelow};
-ghost use Rattle.epochs.specs.Sync.{anyOpen};
+ghost use Rattle.epochs.specs.Stages.{openBelow, anyOpen};
 ghost use Rattle.epochs.specs.Requires.{isOpen, isOpenBelow};
 
 fn is_open(transient: &[u32], z: Sizes, thread: usize) -> bool

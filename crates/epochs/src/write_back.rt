@@ -5,7 +5,8 @@ use transient::sizes::Sizes;
 ghost use mathlib.Core.Path.{_≡_};
 ghost use Rattle.transient.specs.Store.{store, outcome};
 ghost use Rattle.transient.specs.Requires.{EnteredWith};
-ghost use Rattle.epochs.specs.WriteBack.{writeBackSized, writeBack};
+ghost use Rattle.epochs.specs.WriteBack.{writeBack};
+ghost use Rattle.epochs.specs.Stages.{writeBackSized};
 
 fn write_line(
     working: &[u32],

@@ -20,7 +20,8 @@ use Rattle.transient.specs.Entry.{entryCheck}
 use Rattle.transient.specs.Passed.{entry-with}
 use Rattle.epochs.specs.declared.Advance.{Advance}
 use Rattle.epochs.specs.declared.Advance.the-variants.{Declined}
-use Rattle.epochs.specs.Advance.{reclaimNext, contentsNext, headerNext, clockNext, place, step, noted, underway, openBelow, advanceCheck, advanceSized, advance}
+use Rattle.epochs.specs.Advance.{reclaimNext, contentsNext, headerNext, clockNext, place, step, noted, advance}
+use Rattle.epochs.specs.Stages.{underway, openBelow, heldCheck, advanceSized, advance-is}
 use Rattle.crash.specs.Reference.{Jobs}
 use Rattle.crash.specs.Slots.{Place}
 use Rattle.guarantee.specs.Trace.{Plain, toldAdvance}
@@ -65,8 +66,8 @@ module _ {sz : Sizes} {start : Jobs} {st : Store} {p : Plain} (y : Ready sz star
 -- ---- the checks
 module _ {sz : Sizes} {start : Jobs} {st : Store} {p : Plain} (g : Good sz start st p) where
   -- refusals 14 and 15 passed
-  ready : advanceCheck sz (st .transient) (p .clock) ≡ Accepted → Ready sz start st p
-  unfolding advanceCheck openBelow
+  ready : heldCheck sz (st .transient) (p .clock) ≡ Accepted → Ready sz start st p
+  unfolding heldCheck openBelow
   ready e =
       let below : ℕ → Bool = λ u. eqb (openEpoch (st .transient) u + 1) (p .clock) in
       let last = eqb (p .clock) mostNumber in
@@ -86,16 +87,15 @@ module _ {sz : Sizes} {start : Jobs} {st : Store} {p : Plain} (g : Good sz start
 
   advance-sized-good : note placeAt (st .transient) < sz .n → Told (advanceSized sz st)
   unfolding advanceSized
-  advance-sized-good h = rw (g .working .clock-is) (go (advanceCheck sz (st .transient) (p .clock)) refl)
+  advance-sized-good h = rw (g .working .clock-is) (go (heldCheck sz (st .transient) (p .clock)) refl)
     where
-      go : (k : Check) → advanceCheck sz (st .transient) (p .clock) ≡ k → Told (afterCheck k Declined st next)
+      go : (k : Check) → heldCheck sz (st .transient) (p .clock) ≡ k → Told (afterCheck k Declined st next)
       go (Refused r) e = g
       go Accepted e = step-good (ready e) h
 
   -- ---- the call
   pub advance-good : Told (advance st)
-  unfolding advance
-  advance-good = go (entryCheck st) refl
+  advance-good = rw (advance-is st) (go (entryCheck st) refl)
     where
       place-below : entryCheck st ≡ Accepted → note placeAt (st .transient) < sz .n
       place-below a = rw (sizes-is g) at (entry-with (st .working) (st .persistent) (st .transient) a .entered .place)

@@ -4,6 +4,7 @@ use mathlib.Core.Path.{_≡_, refl}
 use mathlib.Core.Bool.{Bool, true, false}
 use mathlib.Core.Logic.{_≢_}
 use mathlib.Core.List.{List}
+use mathlib.Core.Option.{Option}
 use lib.ListN.{length}
 use native.Mathlib.Omega.{arith}
 use Rattle.reply.specs.declared.Check.{Check}
@@ -21,7 +22,8 @@ use Rattle.jobs.specs.declared.way.Way.{Way}
 use Rattle.jobs.specs.declared.way.Way.the-variants.{Open, Declined}
 use Rattle.jobs.specs.Way.{wayIn, byWay}
 use Rattle.jobs.specs.Laws.{way-operating}
-use Rattle.crash.specs.Reference.{Jobs, Act, Value}
+use Rattle.crash.specs.Reference.{Jobs}
+use Rattle.crash.specs.Slots.{Value}
 use Rattle.guarantee.specs.Trace.{Plain, toldChange}
 use Rattle.guarantee.specs.Good.{Good}
 
@@ -68,27 +70,27 @@ module _ {sz : Sizes} {start : Jobs} {st : Store} {p : Plain} (g : Good sz start
   last-below a = rw sizes-is at (entry-with (st .working) (st .persistent) (st .transient) a .entered .last)
 
 -- ---- what a call's part leaves is good
-pub record Fine (sz : Sizes) (start : Jobs) (l : List ℕ) (p : Plain) (act : Act) (thread : ℕ) (name : Name) (v : Value) (ch : Changed) : Type 0 where
-  pub good : Good sz start (store (ch .table .working) l (ch .table .transient)) (toldChange act thread name v (ch .reply) p)
+pub record Fine (sz : Sizes) (start : Jobs) (l : List ℕ) (p : Plain) (thread : ℕ) (name : Name) (v : Option Value) (ch : Changed) : Type 0 where
+  pub good : Good sz start (store (ch .table .working) l (ch .table .transient)) (toldChange thread name v (ch .reply) p)
 
-module _ {sz : Sizes} {start : Jobs} {wk l tr : List ℕ} {p : Plain} {act : Act} {thread : ℕ} {name : Name} {v : Value} (g : Good sz start (store wk l tr) p) where
-  pub fine-refused : (r : Refusal) → Fine sz start l p act thread name v (refused r (table wk tr))
+module _ {sz : Sizes} {start : Jobs} {wk l tr : List ℕ} {p : Plain} {thread : ℕ} {name : Name} {v : Option Value} (g : Good sz start (store wk l tr) p) where
+  pub fine-refused : (r : Refusal) → Fine sz start l p thread name v (refused r (table wk tr))
   fine-refused r = record { good = g }
 
-  pub fine-declines : (b : Bool) (r : Refusal) (next : Changed) → (b ≡ false → Fine sz start l p act thread name v next)
-      → Fine sz start l p act thread name v (declines b r (table wk tr) next)
-  fine-declines b r next h = declines-way (Fine sz start l p act thread name v) (table wk tr) b r next (fine-refused r) h
+  pub fine-declines : (b : Bool) (r : Refusal) (next : Changed) → (b ≡ false → Fine sz start l p thread name v next)
+      → Fine sz start l p thread name v (declines b r (table wk tr) next)
+  fine-declines b r next h = declines-way (Fine sz start l p thread name v) (table wk tr) b r next (fine-refused r) h
 
   pub fine-way : (bad : Bool) (next : ℕ → Changed)
-      → (thread < sz .t → openEpoch tr thread ≢ 0 → bad ≡ false → Fine sz start l p act thread name v (next (openEpoch tr thread)))
-      → Fine sz start l p act thread name v (byWay (wayIn sz tr thread bad) (table wk tr) next)
-  fine-way bad next h = way-way (Fine sz start l p act thread name v) sz (table wk tr) thread bad next (λ r. fine-refused r) h
+      → (thread < sz .t → openEpoch tr thread ≢ 0 → bad ≡ false → Fine sz start l p thread name v (next (openEpoch tr thread)))
+      → Fine sz start l p thread name v (byWay (wayIn sz tr thread bad) (table wk tr) next)
+  fine-way bad next h = way-way (Fine sz start l p thread name v) sz (table wk tr) thread bad next (λ r. fine-refused r) h
 
 -- a whole call, from its part after refusals 1 and 2
-pub fine-call : {sz : Sizes} {start : Jobs} {st : Store} {p : Plain} {act : Act} {thread : ℕ} {name : Name} {v : Value} (call : Sizes → Table → Changed)
+pub fine-call : {sz : Sizes} {start : Jobs} {st : Store} {p : Plain} {thread : ℕ} {name : Name} {v : Option Value} (call : Sizes → Table → Changed)
     → Good sz start st p
-    → (entryCheck st ≡ Accepted → Fine sz start (st .persistent) p act thread name v (call sz (tableOf st)))
-    → Good sz start (onStore st call .store) (toldChange act thread name v (onStore st call .reply) p)
-fine-call {sz} {start} {st} {p} {act} {thread} {name} {v} call g h =
-    call-way (λ a. Good sz start (a .store) (toldChange act thread name v (a .reply) p)) st call (λ r. g)
+    → (entryCheck st ≡ Accepted → Fine sz start (st .persistent) p thread name v (call sz (tableOf st)))
+    → Good sz start (onStore st call .store) (toldChange thread name v (onStore st call .reply) p)
+fine-call {sz} {start} {st} {p} {thread} {name} {v} call g h =
+    call-way (λ a. Good sz start (a .store) (toldChange thread name v (a .reply) p)) st call (λ r. g)
     (λ e. rw (sizes-is g) (h e .good))

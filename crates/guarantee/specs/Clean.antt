@@ -25,8 +25,7 @@ use Rattle.survival.specs.Survivors.{kept, wins, survives, survivor}
 use Rattle.acceptance.specs.Accept.{blankHeader, proper, sameVersion, versionBelow, imageCheck}
 use Rattle.acceptance.specs.Sound.{Accepts, accepted-says}
 use Rattle.recovery.specs.Steps.{survivor-named, survivors-apart}
-use Rattle.crash.specs.Reference.{Value}
-use Rattle.crash.specs.Slots.{Slot, Filled, Proper, Shows}
+use Rattle.crash.specs.Slots.{Value, Slot, Filled, Proper, Shows}
 use Rattle.crash.specs.Steps.{atRest, Survives, Settled, Start}
 use Rattle.crash.specs.Begin.{start-inv}
 use Rattle.guarantee.specs.Trace.{startOf}

@@ -21,11 +21,11 @@ use Rattle.acceptance.specs.Sound.{Sound, says-accepted}
 use Rattle.recovery.specs.Recover.{finished}
 use Rattle.recovery.specs.Steps.{survivors-apart}
 use Rattle.recovery.specs.Completes.{Rebuilt, recovery-completes, recovery-rebuilds}
-use Rattle.crash.specs.Reference.{Value, Jobs, jobsAt}
-use Rattle.crash.specs.Slots.{Slot, Proper}
+use Rattle.crash.specs.Reference.{Jobs, jobsAt}
+use Rattle.crash.specs.Slots.{Value, Slot, Proper}
 use Rattle.crash.specs.Steps.{Kept, Survives}
 use Rattle.crash.specs.Cut.{CutShows, cut-versions, cut-names, cut-named, cut-jobs}
-use Rattle.guarantee.specs.Trace.{Plain, moment}
+use Rattle.guarantee.specs.Trace.{Plain}
 use Rattle.guarantee.specs.Promise.{jobsOf, Holds, Promise}
 use Rattle.guarantee.specs.View.{entryOf, view, view-in}
 use Rattle.guarantee.specs.Good.{Good}
@@ -166,7 +166,7 @@ module _ {sz : Sizes} {start : Jobs} {st : Store} {p : Plain} (g : Good sz start
   rebuilt-holds r = record { same = λ k. same-jobs (r .same) k ∙ cut-map k; once = survivors-apart _ (r .accepted) }
 
   -- demand 3 at this moment
-  pub cut-promise : Promise start (moment st p)
+  pub cut-promise : Promise start (record { store = st; plain = p })
   cut-promise =
       record {
         clock = g .persistent .clock-is;

@@ -10,7 +10,7 @@ use Rattle.epochs.specs.Advance.{advance}
 use Rattle.epochs.specs.Sync.{syncCheck, byReply, mostLines}
 use Rattle.epochs.specs.Left.{advance-moves, budget, budget-top, budget-low, budget-on, budget-tick}
 use Rattle.epochs.specs.Kept.{Quiet, check-quiet, quiet-place, Onward, went, ticked, advance-quiet, quiet-back, back-same}
-use Rattle.guarantee.specs.Trace.{LineCode, Moment, moment, stay, afterLines, afterLine, toldAdvance, afterAdvance, syncing, syncs, through}
+use Rattle.guarantee.specs.Trace.{Moment, stay, afterLines, afterLine, toldAdvance, afterAdvance, syncing, syncs, through}
 
 -- the reference map has heard of it
 pub record Ended (m : Moment) : Type 0 where
@@ -21,14 +21,14 @@ record Underway (more ticks : ℕ) (st : Store) : Type 0 where
   quiet : Quiet ticks st
   enough : budget (tableOf st) ticks ≤ more
 
-lines-underway : (more ticks : ℕ) (ks : List LineCode) (m : Moment) → Underway more ticks (m .store) → Underway more ticks (afterLines ks m .last .store)
+lines-underway : (more ticks : ℕ) (ks : List (ℕ × ℕ)) (m : Moment) → Underway more ticks (m .store) → Underway more ticks (afterLines ks m .last .store)
 unfolding afterLines afterLine
 lines-underway more ticks [] m u = u
 lines-underway more ticks (k ∷ ks) m u =
     lines-underway more ticks ks (afterLine k m)
-    (record { quiet = quiet-back ticks (m .store) (k .slot) (k .code) (u .quiet); enough = rw (back-same (m .store) (k .slot) (k .code)) (u .enough) })
+    (record { quiet = quiet-back ticks (m .store) (k .0) (k .1) (u .quiet); enough = rw (back-same (m .store) (k .0) (k .1)) (u .enough) })
 
-syncing-ends : (more ticks k : ℕ) (lines : ℕ → List LineCode) (m : Moment) → Underway more ticks (m .store) → Ended (syncing more ticks k lines m .last)
+syncing-ends : (more ticks k : ℕ) (lines : ℕ → List (ℕ × ℕ)) (m : Moment) → Underway more ticks (m .store) → Ended (syncing more ticks k lines m .last)
 unfolding syncing afterAdvance
 syncing-ends more zero k lines m u = record { done = refl }
 syncing-ends zero (suc ticks) k lines m u = absurd (omega (arith, u .enough, budget-low (tableOf (m .store)) ticks (quiet-place (u .quiet))))
@@ -43,11 +43,11 @@ syncing-ends (suc more) (suc ticks) k lines m u =
 
     go : Onward ticks (x .store) → ((y : Moment) → Underway more (suc ticks) (y .store) → Ended (syncing more (suc ticks) (suc k) lines y .last))
         → ((y : Moment) → Underway more ticks (y .store) → Ended (syncing more ticks (suc k) lines y .last))
-        → Ended (byReply (advance (x .store) .reply) (syncing more (suc ticks) (suc k) lines) (syncing more ticks (suc k) lines) (λ _. stay) (moment (advance (x .store) .store) (toldAdvance (advance (x .store) .reply) (x .plain))) .last)
+        → Ended (byReply (advance (x .store) .reply) (syncing more (suc ticks) (suc k) lines) (syncing more ticks (suc k) lines) (λ _. stay) (record { store = advance (x .store) .store; plain = toldAdvance (advance (x .store) .reply) (x .plain) }) .last)
     go (went r q) a b = rw r (a _ (record { quiet = q; enough = omega (arith, v .enough, budget-on (advance-moves (x .store)) ticks r) }))
     go (ticked r q) a b = rw r (b _ (record { quiet = q; enough = omega (arith, v .enough, budget-tick (advance-moves (x .store)) ticks r) }))
 
-pub sync-ends : (lines : ℕ → List LineCode) (m : Moment) → syncCheck (m .store) ≡ Accepted → Ended (through (syncs lines) m .last)
+pub sync-ends : (lines : ℕ → List (ℕ × ℕ)) (m : Moment) → syncCheck (m .store) ≡ Accepted → Ended (through (syncs lines) m .last)
 unfolding through
 sync-ends lines m a =
     rw a (syncing-ends (2 * mostLines (slotsOf (m .store .working))) 2 0 lines m (record { quiet = check-quiet (m .store) a; enough = budget-top (tableOf (m .store)) }))

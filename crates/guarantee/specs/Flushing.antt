@@ -16,16 +16,17 @@ use Rattle.reply.specs.declared.Check.the-variants.{Accepted, Refused}
 use Rattle.reply.specs.declared.Refusal.the-variants.{NoLine}
 use Rattle.reply.specs.Refusals.{refuse}
 use Rattle.image.specs.Layout.{header, contents}
-use Rattle.image.specs.Line.{heldHeader, heldContents, storeLine}
-use Rattle.image.specs.Requires.{slot}
+use Rattle.image.specs.Line.{storeLine}
+use Rattle.image.specs.Requires.{heldHeader, heldContents, slot}
 use Rattle.image.specs.Laws.{length-contents}
 use Rattle.transient.specs.declared.sizes.Sizes.{Sizes}
 use Rattle.transient.specs.Layout.{retiredIn, isWaiting}
 use Rattle.transient.specs.Store.{Store, store, Outcome, outcome, afterCheck}
 use Rattle.transient.specs.Entry.{entryCheck}
 use Rattle.transient.specs.Laws.{waiting-again}
-use Rattle.epochs.specs.Advance.{ticking, headerNext, contentsNext, clockNext, waitingFrom, contentsFlushed, headerFlushed, flushFrom, passing}
-use Rattle.epochs.specs.WriteBack.{heldLine, writeBackSized, writeBack}
+use Rattle.epochs.specs.Advance.{ticking, headerNext, contentsNext, clockNext, contentsFlushed, headerFlushed, flushFrom, passing}
+use Rattle.epochs.specs.WriteBack.{writeBack}
+use Rattle.epochs.specs.Stages.{waitingFrom, heldLine, writeBackSized, write-back-is}
 use Rattle.crash.specs.Table.{Put}
 use Rattle.crash.specs.Reference.{Jobs}
 use Rattle.crash.specs.Slots.{Slot, SameHead, SameLine, Inv}
@@ -115,8 +116,7 @@ module _ {sz : Sizes} {start : Jobs} {st : Store} {p : Plain} (slot code : ℕ) 
       go false e = copied-good (leb-false (sz .n) slot (or-left (leb (sz .n) slot) _ e))
 
   pub write-back-good : Good sz start (writeBack st slot code .store) p
-  unfolding writeBack
-  write-back-good = rw (sizes-is g) (go (entryCheck st))
+  write-back-good = rw (write-back-is st slot code, sizes-is g) (go (entryCheck st))
     where
       go : (k : Check) → Good sz start (afterCheck k Refused st (writeBackSized slot code sz st) .store) p
       go (Refused r) = g

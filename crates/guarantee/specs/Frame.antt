@@ -4,6 +4,7 @@ use mathlib.Core.Path.{_≡_, refl, _∙_}
 use mathlib.Core.Bool.{Bool, true, false}
 use mathlib.Core.Logic.{_≢_}
 use mathlib.Core.List.{List, [], _∷_, _++_}
+use mathlib.Core.Option.{Option}
 use lib.Dec.{eqb}
 use borrow.Author.Tests.{le-leb, ne-eqb}
 use native.Mathlib.Omega.{arith}
@@ -15,12 +16,13 @@ use Rattle.transient.specs.Store.{Store, store}
 use Rattle.transient.specs.Layout.{note, nextUidAt, phaseAt, placeAt, openEpoch, isWaiting}
 use Rattle.transient.specs.Requires.{notes-after}
 use Rattle.transient.specs.Laws.{HeadKept, waiting-again}
-use Rattle.epochs.specs.Advance.{reclaimNext, contentsNext, headerNext, clockNext, underway}
+use Rattle.epochs.specs.Advance.{reclaimNext, contentsNext, headerNext, clockNext}
+use Rattle.epochs.specs.Stages.{underway}
 use Rattle.crash.specs.Table.{Put}
-use Rattle.crash.specs.Reference.{Jobs, Act, Value, Change}
-use Rattle.crash.specs.Slots.{Slot, State, Place, Inv}
+use Rattle.crash.specs.Reference.{Jobs, Change}
+use Rattle.crash.specs.Slots.{Value, Slot, State, Place, Inv}
 use Rattle.crash.specs.Steps.{Operation, Joins}
-use Rattle.guarantee.specs.Trace.{Plain, plain, rowed}
+use Rattle.guarantee.specs.Trace.{Plain, plain}
 use Rattle.guarantee.specs.View.{entryOf, slotOf, view, progress, view-in, view-put}
 use Rattle.guarantee.specs.Good.{stateOf, Image, Opens, Good}
 use Rattle.guarantee.specs.Notes.{Joined}
@@ -134,7 +136,7 @@ module _ {sz : Sizes} {start : Jobs} {st : Store} {p : Plain} (g : Good sz start
       }
 
   -- an entry of the row by the operation's epoch in the notes
-  pub row-epoch : (act : Act) (thread : ℕ) (k : Name) (v : Value) → thread < sz .t
-      → rowed p act thread k v
-      ≡ p .row ++ (record { epoch = openEpoch (st .transient) thread; act = act; name = k; value = v } ∷ [])
-  row-epoch act thread k v h = rw (g .opens .same thread h)
+  pub row-epoch : (thread : ℕ) (k : Name) (v : Option Value) → thread < sz .t
+      → p .row ++ (record { epoch = p .operation thread; name = k; value = v } ∷ [])
+      ≡ p .row ++ (record { epoch = openEpoch (st .transient) thread; name = k; value = v } ∷ [])
+  row-epoch thread k v h = rw (g .opens .same thread h)

@@ -17,7 +17,7 @@ use Rattle.image.specs.Name.{Name, nameAt, same-name, name-same}
 use Rattle.survival.specs.Survivors.{survivor}
 use Rattle.acceptance.specs.Accept.{survivesAs, imageCheck}
 use Rattle.recovery.specs.Steps.{SameSurvivors, survivors-apart, survives-same}
-use Rattle.crash.specs.Reference.{Value}
+use Rattle.crash.specs.Slots.{Value}
 use Rattle.guarantee.specs.Promise.{jobsOf}
 
 -- a survivor with the name k and the value v

@@ -4,6 +4,7 @@ use mathlib.Core.Path.{_≡_, refl, _∙_}
 use mathlib.Core.Bool.{true}
 use mathlib.Core.Logic.{_≢_}
 use mathlib.Core.List.{List}
+use mathlib.Core.Option.{some}
 use lib.ListN.{length}
 use lib.Dec.{ltb}
 use borrow.Author.Tests.{ltb-false}
@@ -24,7 +25,6 @@ use Rattle.jobs.specs.Job.{Job, jobWords, badJob}
 use Rattle.jobs.specs.Laws.{job-named, job-words}
 use Rattle.job_new.specs.New.{newAt, newAbsent, newJob}
 use Rattle.job_new.specs.Stages.{newIn, newLooked, newOpen, newSized}
-use Rattle.crash.specs.Reference as ref
 use Rattle.crash.specs.Reference.{Jobs}
 use Rattle.crash.specs.New.{new-inv}
 use Rattle.guarantee.specs.Trace.{Plain, toldChange}
@@ -41,7 +41,7 @@ module _ {sz : Sizes} {start : Jobs} {wk l tr : List ℕ} {p : Plain} (thread : 
   e = openEpoch tr thread
 
   abbrev Good′ : Changed → Type 0
-  Good′ = Fine sz start l p ref.made thread (jobName (j .key)) (j .value)
+  Good′ = Fine sz start l p thread (jobName (j .key)) (some (j .value))
 
   made-fine : (s : ℕ) → s < sz .n → freeAt wk s ≡ true → Missing sz (table wk tr) (jobName (j .key)) e → note nextUidAt tr ≤ mostNumber → Good′ (newAt sz (table wk tr) e s j)
   unfolding newAt
@@ -50,7 +50,7 @@ module _ {sz : Sizes} {start : Jobs} {wk l tr : List ℕ} {p : Plain} (thread : 
       let i = made-joins (g .notes) e s h (note nextUidAt tr + 1) in
       let up : note nextUidAt tr + 1 ≡ suc (note nextUidAt tr) = omega arith in
       record {
-        good = good-change g (wrote-image a (g .working)) (i .head) (i .uid ∙ up) (row-epoch g ref.made thread (jobName (j .key)) (j .value) within)
+        good = good-change g (wrote-image a (g .working)) (i .head) (i .uid ∙ up) (row-epoch g thread (jobName (j .key)) (some (j .value)) within)
             (new-inv (g .inv) record {
               operation = operation-of g thread within begun;
               joins = change-joins g a i h;
@@ -86,7 +86,7 @@ module _ {sz : Sizes} {start : Jobs} {wk l tr : List ℕ} {p : Plain} (thread : 
 
 -- 5, 7 and 8
 pub new-good : {sz : Sizes} {start : Jobs} {st : Store} {p : Plain} (thread : ℕ) (j : Job) → Good sz start st p
-    → Good sz start (newJob st thread j .store) (toldChange ref.made thread (jobName (j .key)) (j .value) (newJob st thread j .reply) p)
+    → Good sz start (newJob st thread j .store) (toldChange thread (jobName (j .key)) (some (j .value)) (newJob st thread j .reply) p)
 unfolding newJob newSized newOpen
 new-good {sz} {start} {st} {p} thread j g =
     fine-call (newSized thread j) g

@@ -35,17 +35,16 @@ pub data Started : Store → Type 0 where
   recovered : (st : Store) → recover st .reply ≡ Done → Started (recover st .store)
 
 -- ---- a cut at a moment of a run that began with these jobs
--- "An operation is present if its epoch is at most c − 2": the starting jobs changed by the row's entries of present operations
-abbrev pub present : Jobs → Moment → Jobs
-present start m = jobsAt (m .plain .clock - 2) start (m .plain .row)
-
 pub record Promise (start : Jobs) (m : Moment) : Type 0 where
   -- "Let c be word 2 of lasting at the cut; it equals the plain board's clock there."
   pub clock : clockOf (m .store .persistent) ≡ m .plain .clock
   -- no recover call declines and at most N go on before one is done, with any words in working and notes before each of them
   pub completes : (any : AnyWords (m .store .persistent)) → Completes any
+  -- "An operation is present if its epoch is at most c − 2": the starting jobs changed by the row's entries of present operations
   -- "Both images' survivors at done are just these"
-  pub persistent : (any : AnyWords (m .store .persistent)) (c : Completes any) → Holds (call any (c .before) .store .persistent) (present start m)
-  pub working : (any : AnyWords (m .store .persistent)) (c : Completes any) → Holds (call any (c .before) .store .working) (present start m)
+  pub persistent : (any : AnyWords (m .store .persistent)) (c : Completes any)
+      → Holds (call any (c .before) .store .persistent) (jobsAt (m .plain .clock - 2) start (m .plain .row))
+  pub working : (any : AnyWords (m .store .persistent)) (c : Completes any)
+      → Holds (call any (c .before) .store .working) (jobsAt (m .plain .clock - 2) start (m .plain .row))
   -- an operation that ended before a sync that reported done is present
   pub durable : (e : ℕ) → List·Memᴰ e (m .plain .durable) → e + 2 ≤ m .plain .clock

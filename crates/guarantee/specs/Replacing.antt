@@ -3,7 +3,8 @@ use Prim.Native.Nat.{ℕ, _+_, _-_, _≤_, _<_}
 use mathlib.Core.Path.{_≡_, refl, sym}
 use mathlib.Core.Bool.{true, false}
 use mathlib.Core.Logic.{_≢_, ⊎-elim}
-use mathlib.Core.List.{List, []}
+use mathlib.Core.List.{List}
+use mathlib.Core.Option.{none, some}
 use lib.ListN.{length, getD, drop, replicate, length-replicate}
 use lib.Dec.{eqb}
 use borrow.Author.Tests.{eqb-true, eqb-false}
@@ -26,9 +27,8 @@ use Rattle.job_set.specs.Stages.{setLooked, setOpened, setSized}
 use Rattle.job_delete.specs.Delete.{freedAt, turned, covered, deleteAt, deleteJob}
 use Rattle.job_delete.specs.Stages.{deleteLooked, deleteOpen, deleteSized}
 use Rattle.crash.specs.Table.{Put}
-use Rattle.crash.specs.Reference as ref
-use Rattle.crash.specs.Reference.{Jobs, Value}
-use Rattle.crash.specs.Slots.{Entry, Slot, State}
+use Rattle.crash.specs.Reference.{Jobs}
+use Rattle.crash.specs.Slots.{Value, Entry, Slot, State}
 use Rattle.crash.specs.Steps as steps
 use Rattle.crash.specs.Steps.{entry, Current, Joins, InPlace}
 use Rattle.crash.specs.InPlace.{set-inv}
@@ -72,7 +72,7 @@ module _ {sz : Sizes} {start : Jobs} {wk l tr : List ℕ} {p : Plain} (thread ke
     epoch-is : old .working .epoch ≡ e
     epoch-is = rw at-slot same
 
-    rewritten-fine : (v : Value) → length v + 1 ≡ sz .w → Fine sz start l p ref.altered thread (jobName key) v (rewritten sz (table wk tr) e s v)
+    rewritten-fine : (v : Value) → length v + 1 ≡ sz .w → Fine sz start l p thread (jobName key) (some v) (rewritten sz (table wk tr) e s v)
     unfolding rewritten
     rewritten-fine v long =
         let a = value-wrote {sz = sz} (g .working .sized) (lives .below) v long in
@@ -81,11 +81,11 @@ module _ {sz : Sizes} {start : Jobs} {wk l tr : List ℕ} {p : Plain} (thread ke
         rw (at-slot, key-contents wk (sz .n) (sz .w) s (omega (arith, g .working .sized .sizes .width-lo))) in
         let r : retiredIn sz tr s ≡ old .retired = rw at-slot in
         record {
-          good = good-change g (wrote-image a (g .working)) (j .head) (j .uid) (row-epoch g ref.altered thread (jobName key) v within)
+          good = good-change g (wrote-image a (g .working)) (j .head) (j .uid) (row-epoch g thread (jobName key) (some v) within)
               (rw (lives .named) at (set-inv (g .inv) (in-place-as x r current (change-joins g a j (lives .below)) epoch-is (change-put g a j (lives .below)))));
         }
 
-    turned-fine : Fine sz start l p ref.dropped thread (jobName key) [] (turned sz (table wk tr) e s)
+    turned-fine : Fine sz start l p thread (jobName key) none (turned sz (table wk tr) e s)
     unfolding turned
     turned-fine =
         let h = antiHeader e (header wk s .uid) in
@@ -94,11 +94,11 @@ module _ {sz : Sizes} {start : Jobs} {wk l tr : List ℕ} {p : Plain} (thread ke
         let x : entry 3 e (header wk s .uid) (nameOf h (getD words 0 0)) (drop 1 words) ≡ steps.turned (old .working) = rw (at-slot, same) in
         let r : retiredIn sz tr s ≡ old .retired = rw at-slot in
         record {
-          good = good-change g (wrote-image a (g .working)) (j .head) (j .uid) (row-epoch g ref.dropped thread (jobName key) [] within)
-              (rw (lives .named) at (turn-inv [] (g .inv) (in-place-as x r current (change-joins g a j (lives .below)) epoch-is (change-put g a j (lives .below)))));
+          good = good-change g (wrote-image a (g .working)) (j .head) (j .uid) (row-epoch g thread (jobName key) none within)
+              (rw (lives .named) at (turn-inv (g .inv) (in-place-as x r current (change-joins g a j (lives .below)) epoch-is (change-put g a j (lives .below)))));
         }
 
-    freed-fine : header wk s .kind ≡ 1 → Fine sz start l p ref.dropped thread (jobName key) [] (freedAt sz (table wk tr) e s)
+    freed-fine : header wk s .kind ≡ 1 → Fine sz start l p thread (jobName key) none (freedAt sz (table wk tr) e s)
     unfolding freedAt
     freed-fine alloc =
         let a = header-wrote (g .working .sized) (lives .below) freeHeader in
@@ -106,8 +106,8 @@ module _ {sz : Sizes} {start : Jobs} {wk l tr : List ℕ} {p : Plain} (thread ke
         let x : entry 0 0 0 (nameOf freeHeader (getD words 0 0)) (drop 1 words) ≡ steps.freed (old .working) = rw at-slot in
         let one : old .working .kind ≡ 1 = rw at-slot alloc in
         record {
-          good = good-change g (wrote-image a (g .working)) (j .head) (j .uid) (row-epoch g ref.dropped thread (jobName key) [] within)
-              (rw (lives .named) at (unmake-inv [] (g .inv) record {
+          good = good-change g (wrote-image a (g .working)) (j .head) (j .uid) (row-epoch g thread (jobName key) none within)
+              (rw (lives .named) at (unmake-inv (g .inv) record {
                 change = in-place-as x (sym (lives .current)) current (change-joins g a j (lives .below)) epoch-is (change-put g a j (lives .below));
                 alloc = one;
               }));
@@ -118,16 +118,16 @@ module _ {sz : Sizes} {start : Jobs} {wk l tr : List ℕ} {p : Plain} (thread ke
     older : header wk s .epoch < e
     older = let q : header wk s .epoch ≤ e = rw at-slot at (no-later-of g newest s (lives .payload .0) (lives .named)) in omega arith
 
-    updated-fine : note lastAt tr < sz .n → (v : Value) → length v + 1 ≡ sz .w → Fine sz start l p ref.altered thread (jobName key) v (updated sz (table wk tr) e s (job key v))
+    updated-fine : note lastAt tr < sz .n → (v : Value) → length v + 1 ≡ sz .w → Fine sz start l p thread (jobName key) (some v) (updated sz (table wk tr) e s (job key v))
     unfolding updated
     updated-fine h v long = super-fine thread key s (steps.updates v) g within begun long lives older 2 h
 
-    covered-fine : note lastAt tr < sz .n → Fine sz start l p ref.dropped thread (jobName key) [] (covered sz (table wk tr) e s key)
+    covered-fine : note lastAt tr < sz .n → Fine sz start l p thread (jobName key) none (covered sz (table wk tr) e s key)
     unfolding covered
     covered-fine h =
         let zeros : Value = replicate (sz .w - 1) 0 in
         let long : length zeros + 1 ≡ sz .w = omega (arith, length-replicate {A = ℕ} (sz .w - 1) 0, g .working .sized .sizes .width-lo) in
-        super-fine thread key s (steps.removes zeros []) g within begun long lives older 1 h
+        super-fine thread key s (steps.removes zeros) g within begun long lives older 1 h
 
 -- ---- by what the look-up finds: 9 and 10
 module _ {sz : Sizes} {start : Jobs} {wk l tr : List ℕ} {p : Plain} (thread : ℕ) (g : Good sz start (store wk l tr) p)
@@ -136,7 +136,7 @@ module _ {sz : Sizes} {start : Jobs} {wk l tr : List ℕ} {p : Plain} (thread : 
   ep = openEpoch tr thread
 
   set-at-fine : (s : ℕ) (j : Job) → length (j .value) + 1 ≡ sz .w → Holding sz (table wk tr) (jobName (j .key)) ep s
-      → Fine sz start l p ref.altered thread (jobName (j .key)) (j .value) (setAt sz (table wk tr) ep s j)
+      → Fine sz start l p thread (jobName (j .key)) (some (j .value)) (setAt sz (table wk tr) ep s j)
   unfolding setAt
   set-at-fine s j long h =
       let lives = live-of g (h .found) in
@@ -145,16 +145,16 @@ module _ {sz : Sizes} {start : Jobs} {wk l tr : List ℕ} {p : Plain} (thread : 
       (λ (a : eqb (header wk s .epoch) ep ≡ false). rw a (updated-fine thread (j .key) s g within begun lives (h .newest) (eqb-false _ _ a) last (j .value) long))
       (cases (eqb (header wk s .epoch) ep))
 
-  pub set-opened-fine : (j : Job) → length (j .value) + 1 ≡ sz .w → Fine sz start l p ref.altered thread (jobName (j .key)) (j .value) (setOpened sz (table wk tr) j ep)
+  pub set-opened-fine : (j : Job) → length (j .value) + 1 ≡ sz .w → Fine sz start l p thread (jobName (j .key)) (some (j .value)) (setOpened sz (table wk tr) j ep)
   unfolding setOpened
   set-opened-fine j long = go (lookup sz (table wk tr) (jobName (j .key)) ep) refl
     where
-      go : (k : Lookup) → lookup sz (table wk tr) (jobName (j .key)) ep ≡ k → Fine sz start l p ref.altered thread (jobName (j .key)) (j .value) (setLooked k sz (table wk tr) ep j)
+      go : (k : Lookup) → lookup sz (table wk tr) (jobName (j .key)) ep ≡ k → Fine sz start l p thread (jobName (j .key)) (some (j .value)) (setLooked k sz (table wk tr) ep j)
       go look.Later q = fine-refused g Newer
       go (look.Live s) q = set-at-fine s j long (live-says sz (table wk tr) (jobName (j .key)) ep q)
       go look.Absent q = fine-refused g NoJob
 
-  delete-at-fine : (s key : ℕ) → Holding sz (table wk tr) (jobName key) ep s → Fine sz start l p ref.dropped thread (jobName key) [] (deleteAt sz (table wk tr) ep s key)
+  delete-at-fine : (s key : ℕ) → Holding sz (table wk tr) (jobName key) ep s → Fine sz start l p thread (jobName key) none (deleteAt sz (table wk tr) ep s key)
   unfolding deleteAt
   delete-at-fine s key h =
       let lives = live-of g (h .found) in
@@ -167,25 +167,25 @@ module _ {sz : Sizes} {start : Jobs} {wk l tr : List ℕ} {p : Plain} (thread : 
       (λ (a : eqb (header wk s .epoch) ep ≡ false). rw a (covered-fine thread key s g within begun lives (h .newest) (eqb-false _ _ a) last))
       (cases (eqb (header wk s .epoch) ep))
 
-  pub delete-open-fine : (key : ℕ) → Fine sz start l p ref.dropped thread (jobName key) [] (deleteOpen sz (table wk tr) key ep)
+  pub delete-open-fine : (key : ℕ) → Fine sz start l p thread (jobName key) none (deleteOpen sz (table wk tr) key ep)
   unfolding deleteOpen
   delete-open-fine key = go (lookup sz (table wk tr) (jobName key) ep) refl
     where
-      go : (k : Lookup) → lookup sz (table wk tr) (jobName key) ep ≡ k → Fine sz start l p ref.dropped thread (jobName key) [] (deleteLooked k sz (table wk tr) ep key)
+      go : (k : Lookup) → lookup sz (table wk tr) (jobName key) ep ≡ k → Fine sz start l p thread (jobName key) none (deleteLooked k sz (table wk tr) ep key)
       go look.Later q = fine-refused g Newer
       go (look.Live s) q = delete-at-fine s key (live-says sz (table wk tr) (jobName key) ep q)
       go look.Absent q = fine-refused g NoJob
 
 -- ---- the calls
 module _ {sz : Sizes} {start : Jobs} {st : Store} {p : Plain} (thread : ℕ) (g : Good sz start st p) where
-  pub set-good : (j : Job) → Good sz start (setJob st thread j .store) (toldChange ref.altered thread (jobName (j .key)) (j .value) (setJob st thread j .reply) p)
+  pub set-good : (j : Job) → Good sz start (setJob st thread j .store) (toldChange thread (jobName (j .key)) (some (j .value)) (setJob st thread j .reply) p)
   unfolding setJob setSized setOpened
   set-good j =
       fine-call (setSized thread j) g
       (λ a. fine-way g (badJob sz j) _
       (λ h b c. set-opened-fine thread g h b (last-below g a) j (omega (arith, job-words sz j c, g .working .sized .sizes .width-lo))))
 
-  pub delete-good : (key : ℕ) → Good sz start (deleteJob st thread key .store) (toldChange ref.dropped thread (jobName key) [] (deleteJob st thread key .reply) p)
+  pub delete-good : (key : ℕ) → Good sz start (deleteJob st thread key .store) (toldChange thread (jobName key) none (deleteJob st thread key .reply) p)
   unfolding deleteJob deleteSized deleteOpen
   delete-good key =
       fine-call (deleteSized thread key) g

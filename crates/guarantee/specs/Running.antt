@@ -6,6 +6,7 @@ use mathlib.Core.List.{List·Memᴰ·cases-cons, List, [], _∷_, List·Memᴰ, 
 use native.Mathlib.Omega.{arith}
 use Rattle.reply.specs.declared.Check.{Check}
 use Rattle.reply.specs.declared.Check.the-variants.{Accepted, Refused}
+use Rattle.reply.specs.Refusals.{byCheck}
 use Rattle.image.specs.Layout.{slotsOf}
 use Rattle.transient.specs.declared.sizes.Sizes.{Sizes}
 use Rattle.transient.specs.Store.{Store, tableOf, sizesOf}
@@ -14,7 +15,7 @@ use Rattle.epochs.specs.declared.Advance.the-variants.{WentOn, Ticked, Declined
 use Rattle.epochs.specs.Advance.{advance}
 use Rattle.epochs.specs.Sync.{syncCheck, byReply, mostLines}
 use Rattle.crash.specs.Reference.{Jobs}
-use Rattle.guarantee.specs.Trace.{LineCode, Call, begins, ends, news, sets, deletes, reads, advances, syncs, writesBack, Plain, toldAdvance, toldDone, Moment, moment, startOf, Trace, stay, one, followed, afterAdvance, afterLine, afterLines, advanced, syncing, synced, through, run, moments}
+use Rattle.guarantee.specs.Trace.{Call, begins, ends, news, sets, deletes, reads, advances, syncs, writesBack, Plain, plain, toldAdvance, Moment, startOf, Trace, stay, one, followed, afterAdvance, afterLine, afterLines, syncing, through, run, moments}
 use Rattle.guarantee.specs.Promise.{jobsOf, Started}
 use Rattle.guarantee.specs.Good.{Good}
 use Rattle.guarantee.specs.Opening.{begin-good, end-good}
@@ -46,16 +47,16 @@ module _ (sz : Sizes) (start : Jobs) where
       }
 
   -- ---- lines written back: the reference map does not hear of them
-  line-good : (k : LineCode) (m : Moment) → GoodAt m → GoodAt (afterLine k m)
+  line-good : (k : ℕ × ℕ) (m : Moment) → GoodAt m → GoodAt (afterLine k m)
   unfolding afterLine
-  line-good k m g = write-back-good (k .slot) (k .code) g
+  line-good k m g = write-back-good (k .0) (k .1) g
 
-  lines-good : (ks : List LineCode) (m : Moment) → GoodAt m → GoodTrace (afterLines ks m)
+  lines-good : (ks : List (ℕ × ℕ)) (m : Moment) → GoodAt m → GoodTrace (afterLines ks m)
   unfolding afterLines
   lines-good [] m g = good-stay m g
   lines-good (k ∷ ks) m g = good-then (one (afterLine k m)) (afterLines ks) (good-one (afterLine k m) (line-good k m g)) (lines-good ks (afterLine k m) (line-good k m g))
 
-  lines-plain : (ks : List LineCode) (m : Moment) → afterLines ks m .last .plain ≡ m .plain
+  lines-plain : (ks : List (ℕ × ℕ)) (m : Moment) → afterLines ks m .last .plain ≡ m .plain
   unfolding afterLines afterLine
   lines-plain [] m = refl
   lines-plain (k ∷ ks) m = lines-plain ks (afterLine k m)
@@ -69,7 +70,7 @@ module _ (sz : Sizes) (start : Jobs) where
   abbrev Ahead : ℕ → Plain → Type 0
   Ahead ticks p = (e : ℕ) → List·Memᴰ e (p .ended) → e + 2 ≤ p .clock + ticks
 
-  done-good : (m : Moment) → GoodAt m → Ahead 0 (m .plain) → GoodAt (moment (m .store) (toldDone (m .plain)))
+  done-good : (m : Moment) → GoodAt m → Ahead 0 (m .plain) → Good sz start (m .store) (plain (m .plain .clock) (m .plain .operation) (m .plain .row) (m .plain .ended) (m .plain .ended))
   done-good m g h =
       record {
         clock-hi = g .clock-hi;
@@ -85,19 +86,19 @@ module _ (sz : Sizes) (start : Jobs) where
   advances-good : (ticks : ℕ) (on tick : Moment → Trace) (m : Moment) → GoodAt m → Ahead (suc ticks) (m .plain)
       → ((x : Moment) → GoodAt x → Ahead (suc ticks) (x .plain) → GoodTrace (on x))
       → ((x : Moment) → GoodAt x → Ahead ticks (x .plain) → GoodTrace (tick x))
-      → GoodTrace (advanced on tick m)
+      → GoodTrace (followed (one (afterAdvance m)) (byReply (advance (m .store) .reply) on tick (λ _. stay)))
   unfolding afterAdvance
   advances-good ticks on tick m g h a b =
       good-then (one (afterAdvance m)) (byReply (advance (m .store) .reply) on tick (λ _. stay)) (good-one (afterAdvance m) (advanced-good m g))
       (go (advance (m .store) .reply) (advance-good g))
     where
       go : (r : Advance) → Good sz start (advance (m .store) .store) (toldAdvance r (m .plain))
-          → GoodTrace (byReply r on tick (λ _. stay) (moment (advance (m .store) .store) (toldAdvance r (m .plain))))
+          → GoodTrace (byReply r on tick (λ _. stay) (record { store = advance (m .store) .store; plain = toldAdvance r (m .plain) }))
       go WentOn i = a _ i h
       go Ticked i = b _ i (λ e j. omega (arith, h e j))
       go (Declined r) i = good-stay _ i
 
-  syncing-good : (more ticks k : ℕ) (lines : ℕ → List LineCode) (m : Moment) → GoodAt m → Ahead ticks (m .plain) → GoodTrace (syncing more ticks k lines m)
+  syncing-good : (more ticks k : ℕ) (lines : ℕ → List (ℕ × ℕ)) (m : Moment) → GoodAt m → Ahead ticks (m .plain) → GoodTrace (syncing more ticks k lines m)
   unfolding syncing
   syncing-good more zero k lines m g h = good-one _ (done-good m g h)
   syncing-good zero (suc ticks) k lines m g h = good-stay m g
@@ -105,11 +106,11 @@ module _ (sz : Sizes) (start : Jobs) where
       let a = lines-good (lines k) m g in
       let on = syncing more (suc ticks) (suc k) lines in
       let tick = syncing more ticks (suc k) lines in
-      good-then (afterLines (lines k) m) (advanced on tick) a
+      good-then (afterLines (lines k) m) (λ x. followed (one (afterAdvance x)) (byReply (advance (x .store) .reply) on tick (λ _. stay))) a
       (advances-good ticks on tick (afterLines (lines k) m .last) (a .last) (rw (lines-plain (lines k) m) h)
       (syncing-good more (suc ticks) (suc k) lines) (syncing-good more ticks (suc k) lines))
 
-  synced-good : (k : Check) (lines : ℕ → List LineCode) (m : Moment) → GoodAt m → GoodTrace (synced k lines m)
+  synced-good : (k : Check) (lines : ℕ → List (ℕ × ℕ)) (m : Moment) → GoodAt m → GoodTrace (byCheck k (λ _. stay m) (syncing (2 * mostLines (slotsOf (m .store .working))) 2 0 lines m))
   synced-good (Refused r) lines m g = good-stay m g
   synced-good Accepted lines m g =
       syncing-good (2 * mostLines (slotsOf (m .store .working))) 2 0 lines m g (λ e i. omega (arith, g .past .ended-hi e i))
@@ -125,7 +126,7 @@ module _ (sz : Sizes) (start : Jobs) where
   through-good (reads thread key) m g = good-one _ g
   through-good advances m g = good-one _ (advanced-good m g)
   through-good (syncs lines) m g = synced-good (syncCheck (m .store)) lines m g
-  through-good (writesBack k) m g = good-one _ (line-good k m g)
+  through-good (writesBack slot code) m g = good-one _ (line-good (slot, code) m g)
 
   pub run-good : (calls : List Call) (m : Moment) → GoodAt m → GoodTrace (run calls m)
   unfolding run

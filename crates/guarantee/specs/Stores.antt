@@ -3,6 +3,7 @@ use Prim.Native.Nat.{ℕ, zero, suc, _*_}
 use mathlib.Core.List.{List, [], _∷_, _++_}
 use Rattle.reply.specs.declared.Check.{Check}
 use Rattle.reply.specs.declared.Check.the-variants.{Accepted, Refused}
+use Rattle.reply.specs.Refusals.{byCheck}
 use Rattle.image.specs.declared.header.Header.{Header}
 use Rattle.image.specs.Layout.{slotsOf}
 use Rattle.image.specs.Line.{headerLine, contentsLine, clockLine, storeLine}
@@ -25,7 +26,7 @@ use Rattle.epochs.specs.Ways.{every-way, nextStep, advance-way, back-way}
 use Rattle.epochs.specs.Sync.{syncCheck, byReply, mostLines}
 use Rattle.epochs.specs.WriteBack.{writeBack}
 use Rattle.guarantee.specs.Changing.{call-way}
-use Rattle.guarantee.specs.Trace.{LineCode, Call, begins, ends, news, sets, deletes, reads, advances, syncs, writesBack, Moment, Trace, stay, one, followed, afterAdvance, afterLine, afterLines, advanced, syncing, synced, through, run}
+use Rattle.guarantee.specs.Trace.{Call, begins, ends, news, sets, deletes, reads, advances, syncs, writesBack, Moment, Trace, stay, one, followed, afterAdvance, afterLine, afterLines, syncing, through, run}
 
 -- l′ is l, or l with one line stored: a header, contents, or the clock
 pub data OneLine (l : List ℕ) : List ℕ → Type 0 where
@@ -85,17 +86,17 @@ chained-then tr next a b = chain-then (tr .passed) (next (tr .last) .passed) a b
 one-step : {m x : Moment} → OneLine (m .store .persistent) (x .store .persistent) → Chained m (one x)
 one-step o = goes o stays
 
-lines-chained : (ks : List LineCode) (m : Moment) → Chained m (afterLines ks m)
+lines-chained : (ks : List (ℕ × ℕ)) (m : Moment) → Chained m (afterLines ks m)
 unfolding afterLines afterLine
 lines-chained [] m = stays
-lines-chained (k ∷ ks) m = chained-then (one (afterLine k m)) (afterLines ks) (one-step (write-back-one (m .store) (k .slot) (k .code))) (lines-chained ks (afterLine k m))
+lines-chained (k ∷ ks) m = chained-then (one (afterLine k m)) (afterLines ks) (one-step (write-back-one (m .store) (k .0) (k .1))) (lines-chained ks (afterLine k m))
 
 going-chained : (r : Advance) (on tick : Moment → Trace) (m : Moment) → ((x : Moment) → Chained x (on x)) → ((x : Moment) → Chained x (tick x)) → Chained m (byReply r on tick (λ _. stay) m)
 going-chained WentOn on tick m a b = a m
 going-chained Ticked on tick m a b = b m
 going-chained (Declined r) on tick m a b = stays
 
-syncing-chained : (more ticks k : ℕ) (lines : ℕ → List LineCode) (m : Moment) → Chained m (syncing more ticks k lines m)
+syncing-chained : (more ticks k : ℕ) (lines : ℕ → List (ℕ × ℕ)) (m : Moment) → Chained m (syncing more ticks k lines m)
 unfolding syncing afterAdvance
 syncing-chained more zero k lines m = one-step none
 syncing-chained zero (suc ticks) k lines m = stays
@@ -103,7 +104,8 @@ syncing-chained (suc more) (suc ticks) k lines m =
     let on = syncing more (suc ticks) (suc k) lines in
     let tick = syncing more ticks (suc k) lines in
     let x = afterLines (lines k) m .last in
-    chained-then (afterLines (lines k) m) (advanced on tick) (lines-chained (lines k) m)
+    chained-then (afterLines (lines k) m) (λ y. followed (one (afterAdvance y)) (byReply (advance (y .store) .reply) on tick (λ _. stay)))
+    (lines-chained (lines k) m)
     (goes (advance-one (x .store))
     (going-chained (advance (x .store) .reply) on tick (afterAdvance x) (syncing-chained more (suc ticks) (suc k) lines) (syncing-chained more ticks (suc k) lines)))
 
@@ -118,10 +120,10 @@ through-chained (reads thread key) m = one-step none
 through-chained advances m = one-step (advance-one (m .store))
 through-chained (syncs lines) m = go (syncCheck (m .store))
   where
-    go : (k : Check) → Chained m (synced k lines m)
+    go : (k : Check) → Chained m (byCheck k (λ _. stay m) (syncing (2 * mostLines (slotsOf (m .store .working))) 2 0 lines m))
     go (Refused r) = stays
     go Accepted = syncing-chained (2 * mostLines (slotsOf (m .store .working))) 2 0 lines m
-through-chained (writesBack k) m = one-step (write-back-one (m .store) (k .slot) (k .code))
+through-chained (writesBack slot code) m = one-step (write-back-one (m .store) slot code)
 
 -- ---- of every run
 pub run-chained : (calls : List Call) (m : Moment) → Chained m (run calls m)

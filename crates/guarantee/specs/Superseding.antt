@@ -3,7 +3,8 @@ use Prim.Native.Nat.{ℕ, _+_, _<_}
 use mathlib.Core.Path.{_≡_, refl, sym, _∙_}
 use mathlib.Core.Bool.{true}
 use mathlib.Core.Logic.{_≢_}
-use mathlib.Core.List.{List, _∷_}
+use mathlib.Core.List.{List, [], _∷_, _++_}
+use mathlib.Core.Option.{Option}
 use lib.ListN.{length}
 use native.Mathlib.Omega.{arith}
 use Rattle.search.specs.Bools.{flag}
@@ -22,11 +23,11 @@ use Rattle.table.specs.Find.{freeAt, room}
 use Rattle.table.specs.Fill.{filledSlot, taken}
 use Rattle.jobs.specs.Job.{superseded}
 use Rattle.crash.specs.Table.{Put2}
-use Rattle.crash.specs.Reference.{Jobs, Act, Value}
-use Rattle.crash.specs.Slots.{Slot, State, Inv}
+use Rattle.crash.specs.Reference.{Jobs}
+use Rattle.crash.specs.Slots.{Value, Slot, State, Inv}
 use Rattle.crash.specs.Steps.{entry, filled, retiring, after, Successor, Current, Joins}
 use Rattle.crash.specs.Over.{over-inv}
-use Rattle.guarantee.specs.Trace.{Plain, plain, rowed}
+use Rattle.guarantee.specs.Trace.{Plain, plain}
 use Rattle.guarantee.specs.View.{entryOf, slotOf, view, view-in, view-put2}
 use Rattle.guarantee.specs.Good.{Good}
 use Rattle.guarantee.specs.Notes.{Joined, taken-joins}
@@ -94,15 +95,15 @@ module _ {sz : Sizes} {start : Jobs} {st : Store} {p : Plain} (g : Good sz start
   over-uid = retired-front tr′ sz s e .uid ∙ j .uid
 
 -- the step with the uid and the name as the call has them
-over-as : {kind : ℕ} {act : Act} {e s r : ℕ} {v u : Value} {now before : ℕ} {st : State} {f : ℕ → Slot} {uid : ℕ} {k : Name} → Inv st
-    → uid ≡ st .slots r .working .uid → k ≡ st .slots r .working .name → Successor kind act v u → Current e r st → Joins (st .clock) e now before (st .slots s)
+over-as : {kind e s r : ℕ} {v : Value} {u : Option Value} {now before : ℕ} {st : State} {f : ℕ → Slot} {uid : ℕ} {k : Name} → Inv st
+    → uid ≡ st .slots r .working .uid → k ≡ st .slots r .working .name → Successor kind v u → Current e r st → Joins (st .clock) e now before (st .slots s)
     → st .slots s .working .kind ≡ 0 → st .slots r .working .epoch < e
     → Put2 (st .slots) f s (filled (entry kind e uid k v) now before (st .slots s)) r (retiring e (st .slots r))
-    → Inv (after st f (st .uid) e act k u)
+    → Inv (after st f (st .uid) e k u)
 over-as i a b o c j free older put = rw b (over-inv i record { outcome = o; of = c; joins = j; free = free; older = older; put = rw (a, b) at put })
 
 -- ---- set by a new UPDATE, delete by a new DELETE
-module _ {sz : Sizes} {start : Jobs} {wk l tr : List ℕ} {p : Plain} {kind : ℕ} {act : Act} {v u : Value} (thread key s : ℕ) (o : Successor kind act v u)
+module _ {sz : Sizes} {start : Jobs} {wk l tr : List ℕ} {p : Plain} {kind : ℕ} {v : Value} {u : Option Value} (thread key s : ℕ) (o : Successor kind v u)
     (g : Good sz start (store wk l tr) p) (within : thread < sz .t) (begun : openEpoch tr thread ≢ 0) (words : length v + 1 ≡ sz .w)
     (lives : Lives g (jobName key) s) (older : header wk s .epoch < openEpoch tr thread) where
   abbrev e : ℕ
@@ -116,7 +117,7 @@ module _ {sz : Sizes} {start : Jobs} {wk l tr : List ℕ} {p : Plain} {kind : �
 
   super-at : (f : ℕ) → f < sz .n → freeAt wk f ≡ true
       → Good sz start (store (filledSlot sz wk f (headerOf kind e (header wk s .uid)) (key ∷ v)) l (setRetired sz (taken sz tr e f) s e))
-      (plain (p .clock) (p .operation) (rowed p act thread (jobName key) u) (p .ended) (p .durable))
+      (plain (p .clock) (p .operation) (p .row ++ (record { epoch = p .operation thread; name = jobName key; value = u } ∷ [])) (p .ended) (p .durable))
   super-at f h free =
       let a = filled-wrote (g .working .sized) h (headerOf kind e (header wk s .uid)) (key ∷ v) (omega (arith, words)) in
       let j = taken-joins (g .notes) e f h in
@@ -125,14 +126,14 @@ module _ {sz : Sizes} {start : Jobs} {wk l tr : List ℕ} {p : Plain} {kind : �
       let apart : f ≢ s = λ q. let z = rw q at empty in omega arith in
       let uid-is : header wk s .uid ≡ old .working .uid = rw at-slot in
       let epoch-is : header wk s .epoch ≡ old .working .epoch = rw at-slot in
-      good-change g (wrote-image a (g .working)) (over-head g a j h (lives .below) apart) (over-uid g a j h (lives .below) apart) (row-epoch g act thread (jobName key) u within)
+      good-change g (wrote-image a (g .working)) (over-head g a j h (lives .below) apart) (over-uid g a j h (lives .below) apart) (row-epoch g thread (jobName key) u within)
       (over-as (g .inv) uid-is (sym (lives .named)) o (record { operation = operation-of g thread within begun; payload = lives .payload; current = lives .current })
       (change-joins g a j h) empty (omega (arith, epoch-is, older)) (over-put g a j h (lives .below) apart))
 
   pub super-fine : (k : ℕ) → note lastAt tr < sz .n
-      → Fine sz start l p act thread (jobName key) u (superseded (room sz (table wk tr) k) sz (table wk tr) e s (headerOf kind e (header wk s .uid)) (key ∷ v))
+      → Fine sz start l p thread (jobName key) u (superseded (room sz (table wk tr) k) sz (table wk tr) e s (headerOf kind e (header wk s .uid)) (key ∷ v))
   super-fine k h = go (room sz (table wk tr) k) refl
     where
-      go : (f : Found) → room sz (table wk tr) k ≡ f → Fine sz start l p act thread (jobName key) u (superseded f sz (table wk tr) e s (headerOf kind e (header wk s .uid)) (key ∷ v))
+      go : (f : Found) → room sz (table wk tr) k ≡ f → Fine sz start l p thread (jobName key) u (superseded f sz (table wk tr) e s (headerOf kind e (header wk s .uid)) (key ∷ v))
       go (At f) q = let b = room-says sz (table wk tr) k f h q in record { good = super-at f (b .0) (b .1) }
       go Nothing q = fine-refused g Full

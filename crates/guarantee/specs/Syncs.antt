@@ -6,6 +6,7 @@ use mathlib.Core.List.{[]}
 use native.Mathlib.Omega.{arith}
 use Rattle.reply.specs.declared.Check.{Check}
 use Rattle.reply.specs.declared.Check.the-variants.{Accepted, Refused}
+use Rattle.reply.specs.Refusals.{byCheck}
 use Rattle.image.specs.Layout.{slotsOf}
 use Rattle.transient.specs.Store.{Outcome, afterCheck}
 use Rattle.epochs.specs.declared.Advance.{Advance}
@@ -14,7 +15,7 @@ use Rattle.epochs.specs.declared.Sync.{Sync}
 use Rattle.epochs.specs.declared.Sync.the-variants as reply
 use Rattle.epochs.specs.Advance.{advance}
 use Rattle.epochs.specs.Sync.{syncCheck, byReply, syncFrom, mostLines, sync}
-use Rattle.guarantee.specs.Trace.{Moment, moment, Trace, stay, one, followed, afterAdvance, afterLines, toldAdvance, syncing, synced, syncs, through}
+use Rattle.guarantee.specs.Trace.{Moment, Trace, stay, one, followed, afterAdvance, afterLines, toldAdvance, syncing, syncs, through}
 
 -- the trace tr is that of a sync with the answer a
 pub record Same (a : Outcome Sync) (tr : Trace) : Type 0 where
@@ -36,15 +37,15 @@ same-syncing (suc more) (suc ticks) k lines m =
         → ((x : Moment) → Same (syncFrom more (suc ticks) (suc lines) (x .store)) (syncing more (suc ticks) (suc k) (λ _. []) x))
         → ((x : Moment) → Same (syncFrom more ticks (suc lines) (x .store)) (syncing more ticks (suc k) (λ _. []) x))
         → Same (byReply r (syncFrom more (suc ticks) (suc lines)) (syncFrom more ticks (suc lines)) (λ r s. record { reply = reply.Declined r; store = s }) (advance (m .store) .store))
-        (followed (one (moment (advance (m .store) .store) (toldAdvance r (m .plain)))) (byReply r (syncing more (suc ticks) (suc k) (λ _. [])) (syncing more ticks (suc k) (λ _. [])) (λ _. stay)))
-    go WentOn a b = let x = a (moment (advance (m .store) .store) (m .plain)) in record { store = x .store; done = x .done }
-    go Ticked a b = let x = b (moment (advance (m .store) .store) (toldAdvance Ticked (m .plain))) in record { store = x .store; done = x .done }
+        (followed (one (record { store = advance (m .store) .store; plain = toldAdvance r (m .plain) })) (byReply r (syncing more (suc ticks) (suc k) (λ _. [])) (syncing more ticks (suc k) (λ _. [])) (λ _. stay)))
+    go WentOn a b = let x = a (record { store = advance (m .store) .store; plain = m .plain }) in record { store = x .store; done = x .done }
+    go Ticked a b = let x = b (record { store = advance (m .store) .store; plain = toldAdvance Ticked (m .plain) }) in record { store = x .store; done = x .done }
     go (Declined r) a b = record { store = refl; done = λ k e. not-done e }
 
 pub sync-is : (m : Moment) → Same (sync (m .store)) (through (syncs (λ _. [])) m)
 unfolding sync through
 sync-is m = go (syncCheck (m .store))
   where
-    go : (k : Check) → Same (afterCheck k reply.Declined (m .store) (syncFrom (2 * mostLines (slotsOf (m .store .working))) 2 0 (m .store))) (synced k (λ _. []) m)
+    go : (k : Check) → Same (afterCheck k reply.Declined (m .store) (syncFrom (2 * mostLines (slotsOf (m .store .working))) 2 0 (m .store))) (byCheck k (λ _. stay m) (syncing (2 * mostLines (slotsOf (m .store .working))) 2 0 (λ _. []) m))
     go (Refused r) = record { store = refl; done = λ k e. not-done e }
     go Accepted = let x = same-syncing (2 * mostLines (slotsOf (m .store .working))) 2 0 0 m in record { store = x .store; done = x .done }

@@ -2,9 +2,10 @@
 use Prim.Native.Nat.{ℕ, zero, suc, _*_}
 use mathlib.Core.Bool.{cond}
 use mathlib.Core.List.{List, [], _∷_, _++_}
+use mathlib.Core.Option.{Option, none, some}
 use lib.Dec.{eqb}
 use Rattle.reply.specs.declared.Check.{Check}
-use Rattle.reply.specs.declared.Check.the-variants.{Accepted, Refused}
+use Rattle.reply.specs.Refusals.{byCheck}
 use Rattle.image.specs.Layout.{slotsOf, clockOf}
 use Rattle.image.specs.Name.{Name, jobName}
 use Rattle.transient.specs.Store.{Store, Outcome}
@@ -18,15 +19,10 @@ use Rattle.epochs.specs.declared.Advance.the-variants.{WentOn, Ticked, Declined
 use Rattle.epochs.specs.Advance.{advance}
 use Rattle.epochs.specs.Sync.{syncCheck, byReply, mostLines}
 use Rattle.epochs.specs.WriteBack.{writeBack}
-use Rattle.crash.specs.Reference.{Act, made, altered, dropped, Change, Value}
-
--- which line the memory writes back: its slot, and 0 for contents or 1 for the header
-pub record LineCode : Type 0 where
-  pub slot : ℕ
-  pub code : ℕ
+use Rattle.crash.specs.Reference.{Change}
 
 -- a call with its arguments; a sync also with the lines that the memory writes back before each of its advance calls, the first
--- being number 0
+-- being number 0: each line is its slot and its code, 0 for contents or 1 for the header
 pub data Call : Type 0 where
   begins : (thread : ℕ) → Call
   ends : (thread : ℕ) → Call
@@ -35,8 +31,8 @@ pub data Call : Type 0 where
   deletes : (thread : ℕ) (key : ℕ) → Call
   reads : (thread : ℕ) (key : ℕ) → Call
   advances : Call
-  syncs : (lines : ℕ → List LineCode) → Call
-  writesBack : LineCode → Call
+  syncs : (lines : ℕ → List (ℕ × ℕ)) → Call
+  writesBack : (slot code : ℕ) → Call
 
 -- ---- the reference map
 -- "It keeps a clock (first the store's), each thread's open operation (first none) and a row of changes (first empty)."
@@ -56,20 +52,16 @@ opening p thread e = λ u. cond (eqb u thread) e (p .operation u)
 
 -- "An accepted begin opens an operation whose epoch is that clock; an accepted end ends it."
 abbrev pub toldBegin : ℕ → Check → Plain → Plain
-toldBegin thread (Refused r) p = p
-toldBegin thread Accepted p = plain (p .clock) (opening p thread (p .clock)) (p .row) (p .ended) (p .durable)
+toldBegin thread k p = byCheck k (λ _. p) (plain (p .clock) (opening p thread (p .clock)) (p .row) (p .ended) (p .durable))
 
 abbrev pub toldEnd : ℕ → Check → Plain → Plain
-toldEnd thread (Refused r) p = p
-toldEnd thread Accepted p = plain (p .clock) (opening p thread 0) (p .row) (p .operation thread ∷ p .ended) (p .durable)
+toldEnd thread k p = byCheck k (λ _. p) (plain (p .clock) (opening p thread 0) (p .row) (p .operation thread ∷ p .ended) (p .durable))
 
--- "An accepted new, set or delete adds its kind, key, value and operation to the row."
-abbrev pub rowed : Plain → Act → ℕ → Name → Value → List Change
-rowed p act thread name v = p .row ++ (record { epoch = p .operation thread; act = act; name = name; value = v } ∷ [])
-
-abbrev pub toldChange : Act → ℕ → Name → Value → Check → Plain → Plain
-toldChange act thread name v (Refused r) p = p
-toldChange act thread name v Accepted p = plain (p .clock) (p .operation) (rowed p act thread name v) (p .ended) (p .durable)
+-- "An accepted new, set or delete adds its kind, key, value and operation to the row." A delete leaves the key no value.
+abbrev pub toldChange : ℕ → Name → Option (List ℕ) → Check → Plain → Plain
+toldChange thread name v k p =
+    byCheck k (λ _. p)
+    (plain (p .clock) (p .operation) (p .row ++ (record { epoch = p .operation thread; name = name; value = v } ∷ [])) (p .ended) (p .durable))
 
 -- "Ticked, from an advance call or one within a sync, adds 1 to the clock. All else, any refused call too, changes nothing."
 abbrev pub toldAdvance : Advance → Plain → Plain
@@ -77,24 +69,18 @@ toldAdvance WentOn p = p
 toldAdvance Ticked p = plain (suc (p .clock)) (p .operation) (p .row) (p .ended) (p .durable)
 toldAdvance (Declined r) p = p
 
-abbrev pub toldDone : Plain → Plain
-toldDone p = plain (p .clock) (p .operation) (p .row) (p .ended) (p .ended)
-
 -- ---- moments: a store, and the reference map beside it
 pub record Moment : Type 0 where
   pub store : Store
   pub plain : Plain
 
-abbrev pub moment : Store → Plain → Moment
-moment st p = record { store = st; plain = p }
-
 -- what a call leaves, the reference map being told its reply
 abbrev pub told : {A : Type 0} → Outcome A → (A → Plain → Plain) → Moment → Moment
-told o tell m = moment (o .store) (tell (o .reply) (m .plain))
+told o tell m = record { store = o .store; plain = tell (o .reply) (m .plain) }
 
 -- "Its first call gets what fresh left, or the recover that replied done"
 abbrev pub startOf : Store → Moment
-startOf st = moment st (plain (clockOf (st .persistent)) (λ _. 0) [] [] [])
+startOf st = record { store = st; plain = plain (clockOf (st .persistent)) (λ _. 0) [] [] [] }
 
 -- ---- a trace: the moments passed, in order, after each single store into the persistent image; and the last of them
 pub record Trace : Type 0 where
@@ -110,44 +96,39 @@ one m = record { passed = m ∷ []; last = m }
 abbrev pub followed : Trace → (Moment → Trace) → Trace
 followed p next = record { passed = p .passed ++ next (p .last) .passed; last = next (p .last) .last }
 
--- ---- an advance call, and a line written back, of which the reference map does not hear
+-- ---- an advance call; a line written back, of slot k .0 with code k .1, of which the reference map does not hear
 unfoldable pub afterAdvance : Moment → Moment
 afterAdvance m = told (advance (m .store)) toldAdvance m
 
-unfoldable pub afterLine : LineCode → Moment → Moment
-afterLine k m = told (writeBack (m .store) (k .slot) (k .code)) (λ _ p. p) m
+unfoldable pub afterLine : ℕ × ℕ → Moment → Moment
+afterLine k m = told (writeBack (m .store) (k .0) (k .1)) (λ _ p. p) m
 
-unfoldable pub afterLines : List LineCode → Moment → Trace
+unfoldable pub afterLines : List (ℕ × ℕ) → Moment → Trace
 afterLines [] m = stay m
 afterLines (k ∷ ks) m = followed (one (afterLine k m)) (afterLines ks)
 
 -- ---- sync: "in a run it stands for those advance calls, so that a cut, or a line written back, may fall after any of them"
--- one advance call of a sync, then what follows by its reply: a declined one ends the sync
-abbrev pub advanced : (Moment → Trace) → (Moment → Trace) → Moment → Trace
-advanced on tick m = followed (one (afterAdvance m)) (byReply (advance (m .store) .reply) on tick (λ _. stay))
-
--- lines written back, an advance call, and so on until so many more ticks have happened; at most `more` advance calls
-unfoldable pub syncing : ℕ → ℕ → ℕ → (ℕ → List LineCode) → Moment → Trace
-syncing more zero k lines m = one (moment (m .store) (toldDone (m .plain)))
+-- lines written back, an advance call, and so on by its reply until so many more ticks have happened: then what has ended is durable.
+-- At most `more` advance calls; a declined one ends the sync
+unfoldable pub syncing : ℕ → ℕ → ℕ → (ℕ → List (ℕ × ℕ)) → Moment → Trace
+syncing more zero k lines m =
+    one (record { store = m .store; plain = plain (m .plain .clock) (m .plain .operation) (m .plain .row) (m .plain .ended) (m .plain .ended) })
 syncing zero (suc ticks) k lines m = stay m
 syncing (suc more) (suc ticks) k lines m =
-    followed (afterLines (lines k) m) (advanced (syncing more (suc ticks) (suc k) lines) (syncing more ticks (suc k) lines))
-
-abbrev pub synced : Check → (ℕ → List LineCode) → Moment → Trace
-synced (Refused r) lines m = stay m
-synced Accepted lines m = syncing (2 * mostLines (slotsOf (m .store .working))) 2 0 lines m
+    followed (afterLines (lines k) m) (λ x. followed (one (afterAdvance x))
+    (byReply (advance (x .store) .reply) (syncing more (suc ticks) (suc k) lines) (syncing more ticks (suc k) lines) (λ _. stay)))
 
 -- ---- a call, and a list of calls
 unfoldable pub through : Call → Moment → Trace
 through (begins thread) m = one (told (begin (m .store) thread) (toldBegin thread) m)
 through (ends thread) m = one (told (end (m .store) thread) (toldEnd thread) m)
-through (news thread j) m = one (told (newJob (m .store) thread j) (toldChange made thread (jobName (j .key)) (j .value)) m)
-through (sets thread j) m = one (told (setJob (m .store) thread j) (toldChange altered thread (jobName (j .key)) (j .value)) m)
-through (deletes thread key) m = one (told (deleteJob (m .store) thread key) (toldChange dropped thread (jobName key) []) m)
+through (news thread j) m = one (told (newJob (m .store) thread j) (toldChange thread (jobName (j .key)) (some (j .value))) m)
+through (sets thread j) m = one (told (setJob (m .store) thread j) (toldChange thread (jobName (j .key)) (some (j .value))) m)
+through (deletes thread key) m = one (told (deleteJob (m .store) thread key) (toldChange thread (jobName key) none) m)
 through (reads thread key) m = one m
 through advances m = one (afterAdvance m)
-through (syncs lines) m = synced (syncCheck (m .store)) lines m
-through (writesBack k) m = one (afterLine k m)
+through (syncs lines) m = byCheck (syncCheck (m .store)) (λ _. stay m) (syncing (2 * mostLines (slotsOf (m .store .working))) 2 0 lines m)
+through (writesBack slot code) m = one (afterLine (slot, code) m)
 
 unfoldable pub run : List Call → Moment → Trace
 run [] m = stay m

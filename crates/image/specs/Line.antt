@@ -3,7 +3,7 @@ use Prim.Native.Nat.{ℕ, zero, suc, _+_}
 use mathlib.Core.List.{List, [], _∷_}
 use lib.ListN.{length, getD, set}
 use Rattle.image.specs.declared.header.Header.{Header}
-use Rattle.image.specs.Layout.{headerAt, contentsAt, header, contents}
+use Rattle.image.specs.Layout.{headerAt, contentsAt}
 
 -- where it stands, and which words
 pub record Line : Type 0 where
@@ -21,13 +21,6 @@ contentsLine n w s words = line (contentsAt n w s) words
 
 abbrev pub clockLine : ℕ → Line
 clockLine c = line 2 (c ∷ [])
-
--- the lines of a slot as an image holds them
-abbrev pub heldHeader : List ℕ → ℕ → Line
-heldHeader l s = headerLine s (header l s)
-
-abbrev pub heldContents : List ℕ → ℕ → ℕ → ℕ → Line
-heldContents l n w s = contentsLine n w s (contents l n w s)
 
 -- the first k words of src, put into dst from b on
 unfoldable pub stored : List ℕ → ℕ → List ℕ → ℕ → List ℕ

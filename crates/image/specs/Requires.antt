@@ -5,7 +5,8 @@ use mathlib.Core.List.{List}
 use lib.ListN.{length, getD}
 use native.Mathlib.Omega.{arith}
 use native.Mathlib.Nat.{mul-suc, mul-le-mul-left}
-use Rattle.image.specs.Layout.{mostSlots, headerWords, headerAt, imageWords}
+use Rattle.image.specs.Layout.{mostSlots, headerWords, headerAt, imageWords, header, contents}
+use Rattle.image.specs.Line.{Line, headerLine, contentsLine}
 
 pub record InRange (n w : ℕ) : Type 0 where
   pub slots-lo : 2 ≤ n
@@ -54,6 +55,13 @@ epochAt l s = getD l (headerAt s + 1) 0
 
 abbrev pub uidAt : List ℕ → ℕ → ℕ
 uidAt l s = getD l (headerAt s + 2) 0
+
+-- ---- the lines of a slot as an image holds them
+abbrev pub heldHeader : List ℕ → ℕ → Line
+heldHeader l s = headerLine s (header l s)
+
+abbrev pub heldContents : List ℕ → ℕ → ℕ → ℕ → Line
+heldContents l n w s = contentsLine n w s (contents l n w s)
 
 -- ---- how they are made
 -- slot s's words end within n slots' words
