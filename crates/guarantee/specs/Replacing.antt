@@ -18,7 +18,8 @@ use Rattle.transient.specs.Layout.{note, lastAt, openEpoch, retiredIn}
 use Rattle.transient.specs.Store.{Store, store, table}
 use Rattle.table.specs.declared.find.Lookup.{Lookup}
 use Rattle.table.specs.declared.find.Lookup.the-variants as look
-use Rattle.table.specs.Find.{newer, lookup}
+use Rattle.table.specs.Find.{lookup}
+use Rattle.table.specs.Requires.{newer}
 use Rattle.jobs.specs.Job.{Job, job, badJob}
 use Rattle.jobs.specs.Laws.{job-words}
 use Rattle.job_set.specs.Set.{rewritten, updated, setAt, setJob}

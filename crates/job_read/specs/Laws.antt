@@ -19,7 +19,8 @@ use Rattle.transient.specs.Layout.{openEpoch}
 use Rattle.transient.specs.Store.{Table, store, table, sizesOf}
 use Rattle.transient.specs.Entry.{entryCheck}
 use Rattle.transient.specs.Passed.{entry-with}
-use Rattle.table.specs.Find.{liveSlot, lookedUp, lookup}
+use Rattle.table.specs.Find.{liveSlot, lookup}
+use Rattle.table.specs.Requires.{lookedUp}
 use Rattle.table.specs.Laws.{live-below, lookup-below}
 use Rattle.table.specs.declared.find.Lookup.{Lookup}
 use Rattle.table.specs.declared.find.Lookup.the-variants.{Later, Live, Absent}
