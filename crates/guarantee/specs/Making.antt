@@ -3,7 +3,7 @@ use Prim.Native.Nat.{ℕ, suc, _+_, _≤_, _<_}
 use mathlib.Core.Path.{_≡_, refl, _∙_}
 use mathlib.Core.Bool.{true}
 use mathlib.Core.Logic.{_≢_}
-use mathlib.Core.List.{List}
+use mathlib.Core.List.{List, _∷_}
 use lib.ListN.{length}
 use lib.Dec.{ltb}
 use borrow.Author.Tests.{ltb-false}
@@ -20,7 +20,7 @@ use Rattle.transient.specs.Calls.{Changed}
 use Rattle.table.specs.declared.find.Lookup.{Lookup}
 use Rattle.table.specs.declared.find.Lookup.the-variants as look
 use Rattle.table.specs.Find.{lookup, room, freeAt}
-use Rattle.jobs.specs.Job.{Job, jobWords, badJob}
+use Rattle.jobs.specs.Job.{Job, badJob}
 use Rattle.jobs.specs.Laws.{job-named, job-words}
 use Rattle.job_new.specs.New.{newAt, newAbsent, newJob}
 use Rattle.job_new.specs.Stages.{newIn, newLooked, newOpen, newSized}
@@ -46,7 +46,7 @@ module _ {sz : Sizes} {start : Jobs} {wk l tr : List ℕ} {p : Plain} (thread : 
   made-fine : (s : ℕ) → s < sz .n → freeAt wk s ≡ true → Missing sz (table wk tr) (jobName (j .key)) e → note nextUidAt tr ≤ mostNumber → Good′ (newAt sz (table wk tr) e s j)
   unfolding newAt
   made-fine s h f m u =
-      let a = filled-wrote (g .working .sized) h (freshHeader e (note nextUidAt tr)) (jobWords j) (omega (arith, words)) in
+      let a = filled-wrote (g .working .sized) h (freshHeader e (note nextUidAt tr)) (j .key ∷ j .value) (omega (arith, words)) in
       let i = made-joins (g .notes) e s h (note nextUidAt tr + 1) in
       let up : note nextUidAt tr + 1 ≡ suc (note nextUidAt tr) = omega arith in
       record {

@@ -2,7 +2,7 @@
 use Prim.Native.Nat.{ℕ, _+_, _≤_, _<_}
 use mathlib.Core.Path.{_≡_}
 use mathlib.Core.Bool.{Bool}
-use mathlib.Core.List.{List}
+use mathlib.Core.List.{List, _∷_}
 use borrow.Author.Tests.{lt-ltb, le-ltb}
 use Rattle.search.specs.declared.Found.{Found}
 use Rattle.search.specs.declared.Found.the-variants.{At, Nothing}
@@ -26,7 +26,7 @@ use Rattle.table.specs.declared.find.Lookup.{Lookup}
 use Rattle.table.specs.declared.find.Lookup.the-variants.{Later, Live, Absent}
 use Rattle.jobs.specs.declared.way.Way.{Way}
 use Rattle.jobs.specs.declared.way.Way.the-variants.{Open, Declined}
-use Rattle.jobs.specs.Job.{Job, jobWords, badJob}
+use Rattle.jobs.specs.Job.{Job, badJob}
 use Rattle.jobs.specs.Way.{wayIn}
 use Rattle.jobs.specs.Requires.{entered-wide, valued-entered, valued-shaped}
 use Rattle.jobs.specs.Laws.{way-valued, way-declined, way-open}
@@ -36,7 +36,7 @@ use Rattle.job_new.specs.Requires.{ready-of, ready-entered, ready-placed
 
 module _ (z : Sizes) (tb : Table) (e : ℕ) (j : Job) where
   pub new-done : (s : ℕ) {u : ℕ} {h : Header} {wk a b : List ℕ} → u ≡ note nextUidAt (tb .transient) → h ≡ freshHeader e u
-      → wk ≡ filledSlot z (tb .working) s h (jobWords j) → a ≡ taken z (tb .transient) e s → b ≡ setNextUid a (u + 1) → changed Accepted wk b ≡ newAt z tb e s j
+      → wk ≡ filledSlot z (tb .working) s h (j .key ∷ j .value) → a ≡ taken z (tb .transient) e s → b ≡ setNextUid a (u + 1) → changed Accepted wk b ≡ newAt z tb e s j
   unfolding newAt
   new-done s p q r x y = rw (r, q, y, x, p)
 

@@ -1,6 +1,7 @@
 -- 01: "New takes a free slot: ALLOC, label e, the next uid."
 use Prim.Native.Nat.{ℕ, _+_}
 use mathlib.Core.Bool.{cond}
+use mathlib.Core.List.{_∷_}
 use lib.Dec.{ltb}
 use Rattle.search.specs.First.{whereFound}
 use Rattle.reply.specs.declared.Check.{Check}
@@ -13,14 +14,14 @@ use Rattle.transient.specs.Store.{Store, Table, Outcome}
 use Rattle.transient.specs.Calls.{Changed, changed, refused}
 use Rattle.table.specs.Find.{room}
 use Rattle.table.specs.Fill.{filledSlot, taken}
-use Rattle.jobs.specs.Job.{Job, jobWords, badJob}
+use Rattle.jobs.specs.Job.{Job, badJob}
 use Rattle.jobs.specs.Way.{onJob}
 
--- the slot s holds the new job
+-- the slot s holds the new job: "N contents of W words: key, then V = W − 1 value words."
 unfoldable pub newAt : Sizes → Table → ℕ → ℕ → Job → Changed
 newAt z tb e s j =
     changed Accepted
-    (filledSlot z (tb .working) s (freshHeader e (note nextUidAt (tb .transient))) (jobWords j))
+    (filledSlot z (tb .working) s (freshHeader e (note nextUidAt (tb .transient))) (j .key ∷ j .value))
     (setNextUid (taken z (tb .transient) e s) (note nextUidAt (tb .transient) + 1))
 
 -- 12: "next uid above 4,000,000,000"; 13: "table full: too few free slots, where one is needed"

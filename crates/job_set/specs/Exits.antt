@@ -2,7 +2,7 @@
 use Prim.Native.Nat.{ℕ}
 use mathlib.Core.Path.{_≡_}
 use mathlib.Core.Bool.{Bool}
-use mathlib.Core.List.{List}
+use mathlib.Core.List.{List, _∷_}
 use borrow.Author.Tests.{eq-eqb, ne-eqb}
 use Rattle.search.specs.declared.Found.{Found}
 use Rattle.search.specs.declared.Found.the-variants.{At, Nothing}
@@ -26,7 +26,7 @@ use Rattle.table.specs.declared.find.Lookup.{Lookup}
 use Rattle.table.specs.declared.find.Lookup.the-variants.{Later, Live, Absent}
 use Rattle.jobs.specs.declared.way.Way.{Way}
 use Rattle.jobs.specs.declared.way.Way.the-variants.{Open, Declined}
-use Rattle.jobs.specs.Job.{Job, jobWords, badJob}
+use Rattle.jobs.specs.Job.{Job, badJob}
 use Rattle.jobs.specs.Way.{wayIn}
 use Rattle.jobs.specs.Requires.{reaching}
 use Rattle.jobs.specs.Laws.{way-valued, way-declined, way-open}
@@ -53,7 +53,7 @@ module _ (z : Sizes) (tb : Table) (e s : ℕ) (j : Job) {f : Found} (fr : f ≡ 
   unfolding updated
   update-full a = rw (← fr, a)
 
-  pub update-done : {i : ℕ} {g h : Header} {wk tr : List ℕ} → f ≡ At i → g ≡ header (tb .working) s → h ≡ updatedHeader e (g .uid) → wk ≡ filledSlot z (tb .working) i h (jobWords j)
+  pub update-done : {i : ℕ} {g h : Header} {wk tr : List ℕ} → f ≡ At i → g ≡ header (tb .working) s → h ≡ updatedHeader e (g .uid) → wk ≡ filledSlot z (tb .working) i h (j .key ∷ j .value)
       → tr ≡ setRetired z (taken z (tb .transient) e i) s e → changed Accepted wk tr ≡ updated z tb e s j
   unfolding updated
   update-done a at hd p q = rw (← fr, a, p, q, hd, at)

@@ -2,7 +2,7 @@
 -- same uid and key) and retires the old one in e."
 use Prim.Native.Nat.{ℕ}
 use mathlib.Core.Bool.{cond}
-use mathlib.Core.List.{List}
+use mathlib.Core.List.{List, _∷_}
 use lib.Dec.{eqb}
 use Rattle.reply.specs.declared.Check.{Check}
 use Rattle.reply.specs.declared.Check.the-variants.{Accepted}
@@ -14,7 +14,7 @@ use Rattle.transient.specs.Store.{Store, Table, Outcome}
 use Rattle.transient.specs.Calls.{Changed, changed, refused}
 use Rattle.table.specs.Find.{room}
 use Rattle.table.specs.Fill.{setValue}
-use Rattle.jobs.specs.Job.{Job, jobWords, badJob, superseded}
+use Rattle.jobs.specs.Job.{Job, badJob, superseded}
 use Rattle.jobs.specs.Way.{onJob}
 
 -- in place
@@ -23,7 +23,7 @@ rewritten z tb e s value = changed Accepted (setValue z (tb .working) s value) (
 
 -- by a new version
 unfoldable pub updated : Sizes → Table → ℕ → ℕ → Job → Changed
-updated z tb e s j = superseded (room z tb 2) z tb e s (updatedHeader e (header (tb .working) s .uid)) (jobWords j)
+updated z tb e s j = superseded (room z tb 2) z tb e s (updatedHeader e (header (tb .working) s .uid)) (j .key ∷ j .value)
 
 unfoldable pub setAt : Sizes → Table → ℕ → ℕ → Job → Changed
 setAt z tb e s j = cond (eqb (header (tb .working) s .epoch) e) (rewritten z tb e s (j .value)) (updated z tb e s j)
