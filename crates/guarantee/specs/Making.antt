@@ -22,8 +22,8 @@ use Rattle.table.specs.declared.find.Lookup.the-variants as look
 use Rattle.table.specs.Find.{lookup, room, freeAt}
 use Rattle.jobs.specs.Job.{Job, badJob}
 use Rattle.jobs.specs.Laws.{job-named, job-words}
-use Rattle.job_new.specs.New.{newAt, newAbsent, newJob}
-use Rattle.job_new.specs.Stages.{newIn, newLooked, newOpen, newSized}
+use Rattle.job_new.specs.New.{newAbsent, newJob}
+use Rattle.job_new.specs.Stages.{newAt, newIn, new-absent-is, newLooked, newOpen, newSized}
 use Rattle.crash.specs.Reference as ref
 use Rattle.crash.specs.Reference.{Jobs}
 use Rattle.crash.specs.New.{new-inv}
@@ -65,10 +65,10 @@ module _ {sz : Sizes} {start : Jobs} {wk l tr : List ℕ} {p : Plain} (thread : 
 
   -- 12 and 13
   absent-fine : note lastAt tr < sz .n → Missing sz (table wk tr) (jobName (j .key)) e → Good′ (newAbsent sz (table wk tr) e j)
-  unfolding newAbsent
   absent-fine h m =
-      fine-declines g (ltb mostNumber (note nextUidAt tr)) NoUid _
-      (λ q. go (ltb-false mostNumber (note nextUidAt tr) q) (room sz (table wk tr) 2) refl)
+      rw (new-absent-is sz (table wk tr) e j)
+      (fine-declines g (ltb mostNumber (note nextUidAt tr)) NoUid _
+      (λ q. go (ltb-false mostNumber (note nextUidAt tr) q) (room sz (table wk tr) 2) refl))
     where
       go : note nextUidAt tr ≤ mostNumber → (f : Found) → room sz (table wk tr) 2 ≡ f → Good′ (newIn f sz (table wk tr) e j)
       go u (At s) q = let b = room-says sz (table wk tr) 2 s h q in made-fine s (b .0) (b .1) m u

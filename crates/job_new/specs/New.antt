@@ -17,18 +17,15 @@ use Rattle.table.specs.Fill.{filledSlot, taken}
 use Rattle.jobs.specs.Job.{Job, badJob}
 use Rattle.jobs.specs.Way.{onJob}
 
--- the slot s holds the new job: "N contents of W words: key, then V = W − 1 value words."
-unfoldable pub newAt : Sizes → Table → ℕ → ℕ → Job → Changed
-newAt z tb e s j =
-    changed Accepted
-    (filledSlot z (tb .working) s (freshHeader e (note nextUidAt (tb .transient))) (j .key ∷ j .value))
-    (setNextUid (taken z (tb .transient) e s) (note nextUidAt (tb .transient) + 1))
-
--- 12: "next uid above 4,000,000,000"; 13: "table full: too few free slots, where one is needed"
+-- 12: "next uid above 4,000,000,000"; 13: "table full: too few free slots, where one is needed"; else a slot holds the new job:
+-- "N contents of W words: key, then V = W − 1 value words."
 unfoldable pub newAbsent : Sizes → Table → ℕ → Job → Changed
 newAbsent z tb e j =
     cond (ltb mostNumber (note nextUidAt (tb .transient))) (refused NoUid tb)
-    (whereFound (room z tb 2) (λ s. newAt z tb e s j) (refused Full tb))
+    (whereFound (room z tb 2)
+    (λ s. changed Accepted (filledSlot z (tb .working) s (freshHeader e (note nextUidAt (tb .transient))) (j .key ∷ j .value))
+    (setNextUid (taken z (tb .transient) e s) (note nextUidAt (tb .transient) + 1)))
+    (refused Full tb))
 
 -- 11: "a live job of that key"
 unfoldable pub newJob : Store → ℕ → Job → Outcome Check
