@@ -32,8 +32,8 @@ use Rattle.transient.specs.Requires.{Entered, note-after, note-head, note-slot,
 use Rattle.transient.specs.Clearing.{emptying-start, emptying-next}
 use Rattle.table.specs.declared.find.Lookup.the-variants.{Later, Live, Absent}
 use Rattle.table.specs.Find.{newerAt, liveAt, liveSlot, lookup, freeAt, room}
-use Rattle.table.specs.Fill.{setValue, filledSlot, joined, taken}
-use Rattle.table.specs.Requires.{RingStart, sooner, ring-of, ring-header, shaped-in, slot-value, value-slot, header-after}
+use Rattle.table.specs.Fill.{filledSlot, joined, taken}
+use Rattle.table.specs.Requires.{RingStart, sooner, setValue, ring-of, ring-header, shaped-in, slot-value, value-slot, header-after}
 use Rattle.table.specs.Laws.{key-then-value}
 
 -- ---- newer, live: the name is the last part of the tests, and the first that is looked at

@@ -25,8 +25,8 @@ use Rattle.transient.specs.Layout.{note, lastAt}
 use Rattle.transient.specs.Store.{Table}
 use Rattle.table.specs.declared.find.Lookup.the-variants.{Later, Live}
 use Rattle.table.specs.Find.{liveAt, liveSlot, lookup, freeAt, room}
-use Rattle.table.specs.Fill.{setValue, filledSlot}
-use Rattle.table.specs.Requires.{newer, lookedUp}
+use Rattle.table.specs.Fill.{filledSlot}
+use Rattle.table.specs.Requires.{newer, lookedUp, setValue}
 
 -- ---- a filled slot
 module _ (z : Sizes) (l : List ℕ) (s : ℕ) (h : Header) (words : List ℕ) where

@@ -1,4 +1,5 @@
--- What functions inside require: a place on the way round the table, and a value for a slot. And parts of a look-up, for laws.
+-- What functions inside require: a place on the way round the table, and a value for a slot. And parts of definitions that
+-- contracts inside and laws name: of a look-up, and a value stored.
 use Prim.Native.Nat.{ℕ, _+_, _*_, _-_, _≤_, _<_}
 use mathlib.Core.Path.{_≡_}
 use mathlib.Core.Bool.{Bool, cond}
@@ -10,7 +11,8 @@ use Rattle.search.specs.First.{whereFound}
 use Rattle.search.specs.Some.{anyOf}
 use Rattle.search.specs.Ring.{ringSlot, ring-below}
 use Rattle.search.specs.declared.Found.{Found}
-use Rattle.image.specs.Layout.{mostSlots, headerWords}
+use Rattle.image.specs.Layout.{mostSlots, headerWords, contentsAt}
+use Rattle.image.specs.Line.{line, storeLine}
 use Rattle.image.specs.Name.{Name}
 use Rattle.image.specs.Requires.{Slot, HeaderFits, slot, slot-header, slot-after}
 use Rattle.transient.specs.declared.sizes.Sizes.{Sizes}
@@ -53,6 +55,10 @@ abbrev pub lookedUp : Found → Lookup
 lookedUp f = whereFound f Live Absent
 
 -- ---- a value for a slot
+-- the value words of a slot
+unfoldable pub setValue : Sizes → List ℕ → ℕ → List ℕ → List ℕ
+setValue z wk s value = storeLine wk (line (contentsAt (z .n) (z .w) s + 1) value)
+
 pub record SlotValue (l : List ℕ) (z : Sizes) (s : ℕ) (value : List ℕ) : Type 0 where
   pub slot : Slot l (z .n) (z .w) s
   pub words : length value ≡ z .w - 1
