@@ -25,16 +25,13 @@ readLooked Later = Declined Newer
 readLooked (Live s) = Shown s
 readLooked Absent = Declined NoJob
 
--- with no operation open refusal 9 is not asked
-unfoldable pub readOpen : Sizes → Table → ℕ → ℕ → Reading
-readOpen z tb key e = readLooked (cond (eqb e 0) (whereFound (liveSlot z tb (jobName key)) Live Absent) (lookup z tb (jobName key) e))
-
--- 5, 8, then 9 and 10
+-- 5, 8, then 9 and 10; with no operation open refusal 9 is not asked
 unfoldable pub readSized : ℕ → ℕ → Sizes → Table → Reading
 readSized thread key z tb =
     cond (leb (z .t) thread) (Declined NoThread)
     (cond (eqb key 0) (Declined BadArgument)
-    (readOpen z tb key (openEpoch (tb .transient) thread)))
+    (readLooked (cond (eqb (openEpoch (tb .transient) thread) 0) (whereFound (liveSlot z tb (jobName key)) Live Absent)
+    (lookup z tb (jobName key) (openEpoch (tb .transient) thread)))))
 
 unfoldable pub readJob : Store → ℕ → ℕ → Reading
 readJob st thread key = byCheck (entryCheck st) Declined (readSized thread key (sizesOf (tableOf st)) (tableOf st))
