@@ -1,6 +1,6 @@
 -- 01: "Begin opens an operation in the clock's epoch; end closes it."
 use Prim.Native.Nat.{ℕ}
-use mathlib.Core.Bool.{not, false}
+use mathlib.Core.Bool.{not, false, cond}
 use lib.Dec.{leb, eqb}
 use Rattle.reply.specs.declared.Check.{Check}
 use Rattle.reply.specs.declared.Check.the-variants.{Accepted}
@@ -8,14 +8,14 @@ use Rattle.reply.specs.declared.Refusal.the-variants.{NoThread, AlreadyOpen}
 use Rattle.image.specs.Layout.{clockOf}
 use Rattle.transient.specs.Layout.{openEpoch, setOpen}
 use Rattle.transient.specs.Store.{Store, Outcome}
-use Rattle.transient.specs.Calls.{changed, declines, onStore}
+use Rattle.transient.specs.Calls.{changed, refused, onStore}
 use Rattle.jobs.specs.Way.{wayIn, byWay}
 
 -- 5: "thread number not below T"; 6: "operation already open"
 unfoldable pub begin : Store → ℕ → Outcome Check
 begin st thread =
-    onStore st (λ z tb. declines (leb (z .t) thread) NoThread tb
-    (declines (not (eqb (openEpoch (tb .transient) thread) 0)) AlreadyOpen tb
+    onStore st (λ z tb. cond (leb (z .t) thread) (refused NoThread tb)
+    (cond (not (eqb (openEpoch (tb .transient) thread) 0)) (refused AlreadyOpen tb)
     (changed Accepted (tb .working) (setOpen (tb .transient) thread (clockOf (tb .working))))))
 
 -- 5; 7: "no operation open"

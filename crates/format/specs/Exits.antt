@@ -11,8 +11,8 @@ use Rattle.image.specs.Layout.{mostSlots, imageWords, sizesOk}
 use Rattle.image.specs.Laws.{sizes-true}
 use Rattle.transient.specs.Layout.{threadsOk, blank}
 use Rattle.transient.specs.Store.{Store, store, outcome}
-use Rattle.format.specs.Format.{freshImage, formatFits, freshStore, format}
-use Rattle.format.specs.Requires.{Fitting, fitting, fit-blanking}
+use Rattle.format.specs.Format.{freshImage, format}
+use Rattle.format.specs.Requires.{formatFits, freshStore, format-is, Fitting, fitting, fit-blanking}
 
 module _ (a b c n w : ℕ) {s : Bool} (sz : s ≡ sizesOk n w) where
   pub format-sizes : s ≡ false → false ≡ formatFits a b c n w
@@ -45,15 +45,13 @@ store-done len n w p q r = rw (p, q, r)
 
 module _ (wk l tr : List ℕ) (slots words : ℕ) {n w : ℕ} {f : Bool} (ne : n ≡ slots) (we : w ≡ words) (fi : f ≡ formatFits (length wk) (length l) (length tr) n w) where
   pub format-declines : f ≡ false → outcome (Refused BadSizes) wk l tr ≡ format (store wk l tr) slots words
-  unfolding format
-  format-declines e = rw (← ne, ← we, ← fi, e)
+  format-declines e = rw (format-is (store wk l tr) slots words, ← ne, ← we, ← fi, e)
 
   module _ (ft : f ≡ true) where
     pub format-fitting : Fitting wk l tr slots words
     format-fitting = rw (ne, we) at (fitting wk l tr n w (sym fi ∙ ft))
 
     pub format-done : {a b d : List ℕ} → store a b d ≡ freshStore (length tr) slots words → outcome Accepted a b d ≡ format (store wk l tr) slots words
-    unfolding format
-    format-done p = rw (← ne, ← we, ← fi, ft, ne, we) (ap (λ (x : Store). record { reply = Accepted; store = x }) p)
+    format-done p = rw (format-is (store wk l tr) slots words, ← ne, ← we, ← fi, ft, ne, we) (ap (λ (x : Store). record { reply = Accepted; store = x }) p)
 
 pub ruleset laws = (sizes-true, fit-blanking, format-sizes, format-slots, format-working, format-persistent, format-threads, fresh-done, store-done, format-declines, format-fitting, format-done)

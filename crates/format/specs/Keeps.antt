@@ -10,10 +10,11 @@ use Rattle.reply.specs.declared.Refusal.{Refusal}
 use Rattle.reply.specs.declared.Refusal.the-variants.{BadSizes}
 use Rattle.reply.specs.Refusals.{refuse}
 use Rattle.transient.specs.Store.{Store, Outcome, afterCheck}
-use Rattle.format.specs.Format.{formatFits, freshStore, format}
+use Rattle.format.specs.Format.{format}
+use Rattle.format.specs.Requires.{formatFits, freshStore}
 
 pub format-keeps : (st : Store) (n w : ℕ) (r : Refusal) → format st n w .reply ≡ Refused r → format st n w .store ≡ st
-unfolding format
+unfolding format formatFits freshStore
 format-keeps st n w r e = go (formatFits (length (st .working)) (length (st .persistent)) (length (st .transient)) n w) e
   where
     whole : Bool → Outcome Check

@@ -5,8 +5,8 @@ ghost use mathlib.Core.Path.{_≡_};
 ghost use lib.ListN.{length};
 ghost use Rattle.image.specs.Layout.{imageWords};
 ghost use Rattle.transient.specs.Store.{store, outcome};
-ghost use Rattle.format.specs.Format.{freshImage, formatFits, freshStore, format};
-ghost use Rattle.format.specs.Requires.{Fitting};
+ghost use Rattle.format.specs.Format.{freshImage, format};
+ghost use Rattle.format.specs.Requires.{Fitting, formatFits, freshStore};
 
 fn format_fits(working: usize, persistent: usize, transient: usize, n: usize, w: usize) -> bool
     ensures { λ r. ⌜ r ≡ formatFits working persistent transient n w ⌝ }

@@ -1,7 +1,7 @@
 -- What a call on jobs leaves is good, beside what the reference map makes of its reply: by the shapes that definitions are made of.
 use Prim.Native.Nat.{ℕ, _<_}
 use mathlib.Core.Path.{_≡_, refl}
-use mathlib.Core.Bool.{Bool, true, false}
+use mathlib.Core.Bool.{Bool, true, false, cond}
 use mathlib.Core.Logic.{_≢_}
 use mathlib.Core.List.{List}
 use mathlib.Core.Option.{Option}
@@ -16,7 +16,7 @@ use Rattle.transient.specs.declared.sizes.Sizes.{Sizes}
 use Rattle.transient.specs.Layout.{threadsOf, note, lastAt, openEpoch}
 use Rattle.transient.specs.Store.{Store, Table, store, table, tableOf, sizesOf, Outcome, afterCheck}
 use Rattle.transient.specs.Entry.{entryCheck}
-use Rattle.transient.specs.Calls.{Changed, refused, declines, inStore, onStore}
+use Rattle.transient.specs.Calls.{Changed, refused, inStore, onStore}
 use Rattle.transient.specs.Passed.{entry-with}
 use Rattle.jobs.specs.declared.way.Way.{Way}
 use Rattle.jobs.specs.declared.way.Way.the-variants.{Open, Declined}
@@ -30,7 +30,7 @@ use Rattle.guarantee.specs.Good.{Good}
 -- ---- the shapes
 -- a condition that refuses, or what follows
 pub declines-way : (P : Changed → Type 0) (tb : Table) (b : Bool) (r : Refusal) (next : Changed) → P (refused r tb) → (b ≡ false → P next)
-    → P (declines b r tb next)
+    → P (cond b (refused r tb) next)
 declines-way P tb true r next g h = g
 declines-way P tb false r next g h = h refl
 
@@ -78,7 +78,7 @@ module _ {sz : Sizes} {start : Jobs} {wk l tr : List ℕ} {p : Plain} {thread : 
   fine-refused r = record { good = g }
 
   pub fine-declines : (b : Bool) (r : Refusal) (next : Changed) → (b ≡ false → Fine sz start l p thread name v next)
-      → Fine sz start l p thread name v (declines b r (table wk tr) next)
+      → Fine sz start l p thread name v (cond b (refused r (table wk tr)) next)
   fine-declines b r next h = declines-way (Fine sz start l p thread name v) (table wk tr) b r next (fine-refused r) h
 
   pub fine-way : (bad : Bool) (next : ℕ → Changed)

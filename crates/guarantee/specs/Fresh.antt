@@ -20,7 +20,8 @@ use Rattle.transient.specs.Laws.{zeros-at}
 use Rattle.survival.specs.Survivors.{kept, survivor}
 use Rattle.acceptance.specs.Accept.{nameless, versionBelow, nameBelow, imageCheck}
 use Rattle.acceptance.specs.Sound.{says-accepted}
-use Rattle.format.specs.Format.{freshImage, formatFits, freshStore, format}
+use Rattle.format.specs.Format.{freshImage, format}
+use Rattle.format.specs.Requires.{formatFits, freshStore}
 use Rattle.guarantee.specs.Says.{filled-says}
 use Rattle.guarantee.specs.Clean.{Begins, blank-clean, survivor-kept, free-proper, clean-good}
 
@@ -114,7 +115,7 @@ pub record Formats (st : Store) (n w : ℕ) : Type 0 where
   pub leaves : format st n w .store ≡ freshStore (length (st .transient)) n w
 
 pub formats : (st : Store) (n w : ℕ) → format st n w .reply ≡ Accepted → Formats st n w
-unfolding format formatFits
+unfolding format formatFits freshStore
 formats st n w e = go (cases fit)
   where
     fit : Bool

@@ -11,7 +11,8 @@ use Rattle.image.specs.Line.{headerLine, contentsLine, storeLine}
 use Rattle.image.specs.Requires.{Sized, slot, header-fits, sized-after}
 use Rattle.image.specs.Laws.{length-store, header-same, header-other, contents-past-header, front-past-header, contents-same, contents-other, header-past-contents, front-past-contents}
 use Rattle.transient.specs.declared.sizes.Sizes.{Sizes}
-use Rattle.table.specs.Fill.{setValue, filledSlot}
+use Rattle.table.specs.Fill.{filledSlot}
+use Rattle.table.specs.Requires.{setValue}
 use Rattle.table.specs.Laws.{length-filled, front-filled, header-filled, header-filled-other, contents-filled, contents-filled-other, value-is-contents}
 use Rattle.guarantee.specs.Good.{Image}
 

@@ -22,7 +22,8 @@ use Rattle.transient.specs.Layout.{note, lastAt, retiredIn}
 use Rattle.transient.specs.Store.{Store, Table, tableOf}
 use Rattle.table.specs.declared.find.Lookup.{Lookup}
 use Rattle.table.specs.declared.find.Lookup.the-variants.{Later, Live, Absent}
-use Rattle.table.specs.Find.{newerAt, newer, liveAt, liveSlot, lookedUp, lookup, freeAt, room}
+use Rattle.table.specs.Find.{newerAt, liveAt, liveSlot, lookup, freeAt, room}
+use Rattle.table.specs.Requires.{newer, lookedUp}
 use Rattle.crash.specs.Reference.{Jobs}
 use Rattle.crash.specs.Slots.{Slot, Filled, Payload}
 use Rattle.guarantee.specs.Trace.{Plain}
@@ -41,7 +42,7 @@ pub record Holding (sz : Sizes) (tb : Table) (name : Name) (e s : ℕ) : Type 0 
 
 module _ (sz : Sizes) (tb : Table) (name : Name) (e : ℕ) where
   looked : (k : Lookup) → lookup sz tb name e ≡ k → k ≢ Later → (newer sz (tb .working) name e ≡ false) × (lookedUp (liveSlot sz tb name) ≡ k)
-  unfolding lookup
+  unfolding lookup newer
   looked k q d =
       ⊎-elim
       (λ (y : newer sz (tb .working) name e ≡ true). let z : Later ≡ k = rw y at q in absurd (d (sym z)))

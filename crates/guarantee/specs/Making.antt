@@ -3,7 +3,7 @@ use Prim.Native.Nat.{ℕ, suc, _+_, _≤_, _<_}
 use mathlib.Core.Path.{_≡_, refl, _∙_}
 use mathlib.Core.Bool.{true}
 use mathlib.Core.Logic.{_≢_}
-use mathlib.Core.List.{List}
+use mathlib.Core.List.{List, _∷_}
 use mathlib.Core.Option.{some}
 use lib.ListN.{length}
 use lib.Dec.{ltb}
@@ -21,10 +21,10 @@ use Rattle.transient.specs.Calls.{Changed}
 use Rattle.table.specs.declared.find.Lookup.{Lookup}
 use Rattle.table.specs.declared.find.Lookup.the-variants as look
 use Rattle.table.specs.Find.{lookup, room, freeAt}
-use Rattle.jobs.specs.Job.{Job, jobWords, badJob}
+use Rattle.jobs.specs.Job.{Job, badJob}
 use Rattle.jobs.specs.Laws.{job-named, job-words}
-use Rattle.job_new.specs.New.{newAt, newAbsent, newJob}
-use Rattle.job_new.specs.Stages.{newIn, newLooked, newOpen, newSized}
+use Rattle.job_new.specs.New.{newAbsent, newJob}
+use Rattle.job_new.specs.Stages.{newAt, newIn, new-absent-is, newLooked, newOpen, newSized}
 use Rattle.crash.specs.Reference.{Jobs}
 use Rattle.crash.specs.New.{new-inv}
 use Rattle.guarantee.specs.Trace.{Plain, toldChange}
@@ -46,7 +46,7 @@ module _ {sz : Sizes} {start : Jobs} {wk l tr : List ℕ} {p : Plain} (thread : 
   made-fine : (s : ℕ) → s < sz .n → freeAt wk s ≡ true → Missing sz (table wk tr) (jobName (j .key)) e → note nextUidAt tr ≤ mostNumber → Good′ (newAt sz (table wk tr) e s j)
   unfolding newAt
   made-fine s h f m u =
-      let a = filled-wrote (g .working .sized) h (freshHeader e (note nextUidAt tr)) (jobWords j) (omega (arith, words)) in
+      let a = filled-wrote (g .working .sized) h (freshHeader e (note nextUidAt tr)) (j .key ∷ j .value) (omega (arith, words)) in
       let i = made-joins (g .notes) e s h (note nextUidAt tr + 1) in
       let up : note nextUidAt tr + 1 ≡ suc (note nextUidAt tr) = omega arith in
       record {
@@ -65,10 +65,10 @@ module _ {sz : Sizes} {start : Jobs} {wk l tr : List ℕ} {p : Plain} (thread : 
 
   -- 12 and 13
   absent-fine : note lastAt tr < sz .n → Missing sz (table wk tr) (jobName (j .key)) e → Good′ (newAbsent sz (table wk tr) e j)
-  unfolding newAbsent
   absent-fine h m =
-      fine-declines g (ltb mostNumber (note nextUidAt tr)) NoUid _
-      (λ q. go (ltb-false mostNumber (note nextUidAt tr) q) (room sz (table wk tr) 2) refl)
+      rw (new-absent-is sz (table wk tr) e j)
+      (fine-declines g (ltb mostNumber (note nextUidAt tr)) NoUid _
+      (λ q. go (ltb-false mostNumber (note nextUidAt tr) q) (room sz (table wk tr) 2) refl))
     where
       go : note nextUidAt tr ≤ mostNumber → (f : Found) → room sz (table wk tr) 2 ≡ f → Good′ (newIn f sz (table wk tr) e j)
       go u (At s) q = let b = room-says sz (table wk tr) 2 s h q in made-fine s (b .0) (b .1) m u

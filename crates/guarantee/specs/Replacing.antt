@@ -19,13 +19,14 @@ use Rattle.transient.specs.Layout.{note, lastAt, openEpoch, retiredIn}
 use Rattle.transient.specs.Store.{Store, store, table}
 use Rattle.table.specs.declared.find.Lookup.{Lookup}
 use Rattle.table.specs.declared.find.Lookup.the-variants as look
-use Rattle.table.specs.Find.{newer, lookup}
+use Rattle.table.specs.Find.{lookup}
+use Rattle.table.specs.Requires.{newer}
 use Rattle.jobs.specs.Job.{Job, job, badJob}
 use Rattle.jobs.specs.Laws.{job-words}
-use Rattle.job_set.specs.Set.{rewritten, updated, setAt, setJob}
-use Rattle.job_set.specs.Stages.{setLooked, setOpened, setSized}
-use Rattle.job_delete.specs.Delete.{freedAt, turned, covered, deleteAt, deleteJob}
-use Rattle.job_delete.specs.Stages.{deleteLooked, deleteOpen, deleteSized}
+use Rattle.job_set.specs.Set.{setAt, setJob}
+use Rattle.job_set.specs.Stages.{rewritten, updated, set-at-is, setLooked, setOpened, setSized}
+use Rattle.job_delete.specs.Delete.{deleteAt, deleteJob}
+use Rattle.job_delete.specs.Stages.{freedAt, turned, covered, delete-at-is, deleteLooked, deleteOpen, deleteSized}
 use Rattle.crash.specs.Table.{Put}
 use Rattle.crash.specs.Reference.{Jobs}
 use Rattle.crash.specs.Slots.{Value, Entry, Slot, State}
@@ -137,12 +138,11 @@ module _ {sz : Sizes} {start : Jobs} {wk l tr : List ℕ} {p : Plain} (thread : 
 
   set-at-fine : (s : ℕ) (j : Job) → length (j .value) + 1 ≡ sz .w → Holding sz (table wk tr) (jobName (j .key)) ep s
       → Fine sz start l p thread (jobName (j .key)) (some (j .value)) (setAt sz (table wk tr) ep s j)
-  unfolding setAt
   set-at-fine s j long h =
       let lives = live-of g (h .found) in
       ⊎-elim
-      (λ (a : eqb (header wk s .epoch) ep ≡ true). rw a (rewritten-fine thread (j .key) s g within begun lives (eqb-true _ _ a) (j .value) long))
-      (λ (a : eqb (header wk s .epoch) ep ≡ false). rw a (updated-fine thread (j .key) s g within begun lives (h .newest) (eqb-false _ _ a) last (j .value) long))
+      (λ (a : eqb (header wk s .epoch) ep ≡ true). rw (set-at-is sz (table wk tr) ep s j, a) (rewritten-fine thread (j .key) s g within begun lives (eqb-true _ _ a) (j .value) long))
+      (λ (a : eqb (header wk s .epoch) ep ≡ false). rw (set-at-is sz (table wk tr) ep s j, a) (updated-fine thread (j .key) s g within begun lives (h .newest) (eqb-false _ _ a) last (j .value) long))
       (cases (eqb (header wk s .epoch) ep))
 
   pub set-opened-fine : (j : Job) → length (j .value) + 1 ≡ sz .w → Fine sz start l p thread (jobName (j .key)) (some (j .value)) (setOpened sz (table wk tr) j ep)
@@ -155,16 +155,15 @@ module _ {sz : Sizes} {start : Jobs} {wk l tr : List ℕ} {p : Plain} (thread : 
       go look.Absent q = fine-refused g NoJob
 
   delete-at-fine : (s key : ℕ) → Holding sz (table wk tr) (jobName key) ep s → Fine sz start l p thread (jobName key) none (deleteAt sz (table wk tr) ep s key)
-  unfolding deleteAt
   delete-at-fine s key h =
       let lives = live-of g (h .found) in
       ⊎-elim
       (λ (a : eqb (header wk s .epoch) ep ≡ true).
       ⊎-elim
-      (λ (b : eqb (header wk s .kind) 1 ≡ true). rw (a, b) (freed-fine thread key s g within begun lives (eqb-true _ _ a) (eqb-true _ _ b)))
-      (λ (b : eqb (header wk s .kind) 1 ≡ false). rw (a, b) (turned-fine thread key s g within begun lives (eqb-true _ _ a)))
+      (λ (b : eqb (header wk s .kind) 1 ≡ true). rw (delete-at-is sz (table wk tr) ep s key, a, b) (freed-fine thread key s g within begun lives (eqb-true _ _ a) (eqb-true _ _ b)))
+      (λ (b : eqb (header wk s .kind) 1 ≡ false). rw (delete-at-is sz (table wk tr) ep s key, a, b) (turned-fine thread key s g within begun lives (eqb-true _ _ a)))
       (cases (eqb (header wk s .kind) 1)))
-      (λ (a : eqb (header wk s .epoch) ep ≡ false). rw a (covered-fine thread key s g within begun lives (h .newest) (eqb-false _ _ a) last))
+      (λ (a : eqb (header wk s .epoch) ep ≡ false). rw (delete-at-is sz (table wk tr) ep s key, a) (covered-fine thread key s g within begun lives (h .newest) (eqb-false _ _ a) last))
       (cases (eqb (header wk s .epoch) ep))
 
   pub delete-open-fine : (key : ℕ) → Fine sz start l p thread (jobName key) none (deleteOpen sz (table wk tr) key ep)

@@ -1,5 +1,4 @@
--- 01: "Delete of an ALLOC labelled e frees the working slot at once. An UPDATE labelled e becomes DELETE in its own slot, contents
--- kept. For an older payload a free slot takes a DELETE (label e, same uid and key, value words 0), and the payload is retired in e."
+-- Delete of a job.
 use Prim.Native.Nat.{ℕ, _-_}
 use mathlib.Core.Bool.{cond}
 use mathlib.Core.List.{_∷_}
@@ -19,23 +18,16 @@ use Rattle.table.specs.Fill.{joined}
 use Rattle.jobs.specs.Job.{superseded}
 use Rattle.jobs.specs.Way.{onJob}
 
+-- "Delete of an ALLOC labelled e frees the working slot at once. An UPDATE labelled e becomes DELETE in its own slot, contents
+-- kept. For an older payload a free slot takes a DELETE (label e, same uid and key, value words 0), and the payload is retired in e."
 -- "Every slot that these calls change .. joins the waiting list of e, the slot freed at once included."
-unfoldable pub freedAt : Sizes → Table → ℕ → ℕ → Changed
-freedAt z tb e s = changed Accepted (storeLine (tb .working) (headerLine s freeHeader)) (joined z (tb .transient) e s)
-
-unfoldable pub turned : Sizes → Table → ℕ → ℕ → Changed
-turned z tb e s =
-    changed Accepted (storeLine (tb .working) (headerLine s (antiHeader e (header (tb .working) s .uid)))) (setWaiting z (tb .transient) e s)
-
-unfoldable pub covered : Sizes → Table → ℕ → ℕ → ℕ → Changed
-covered z tb e s key =
-    superseded (room z tb 1) z tb e s (antiHeader e (header (tb .working) s .uid)) (key ∷ replicate (z .w - 1) 0)
-
 unfoldable pub deleteAt : Sizes → Table → ℕ → ℕ → ℕ → Changed
 deleteAt z tb e s key =
     cond (eqb (header (tb .working) s .epoch) e)
-    (cond (eqb (header (tb .working) s .kind) 1) (freedAt z tb e s) (turned z tb e s))
-    (covered z tb e s key)
+    (cond (eqb (header (tb .working) s .kind) 1)
+    (changed Accepted (storeLine (tb .working) (headerLine s freeHeader)) (joined z (tb .transient) e s))
+    (changed Accepted (storeLine (tb .working) (headerLine s (antiHeader e (header (tb .working) s .uid)))) (setWaiting z (tb .transient) e s)))
+    (superseded (room z tb 1) z tb e s (antiHeader e (header (tb .working) s .uid)) (key ∷ replicate (z .w - 1) 0))
 
 -- 10
 unfoldable pub deleteJob : Store → ℕ → ℕ → Outcome Check

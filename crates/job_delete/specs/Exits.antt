@@ -31,8 +31,8 @@ use Rattle.jobs.specs.declared.way.Way.the-variants.{Open, Declined}
 use Rattle.jobs.specs.Way.{wayIn}
 use Rattle.jobs.specs.Requires.{reaching}
 use Rattle.jobs.specs.Laws.{way-declined, way-open}
-use Rattle.job_delete.specs.Delete.{freedAt, turned, covered, deleteAt, deleteJob}
-use Rattle.job_delete.specs.Stages.{deleteOpen, deleteSized}
+use Rattle.job_delete.specs.Delete.{deleteAt, deleteJob}
+use Rattle.job_delete.specs.Stages.{freedAt, turned, covered, delete-at-is, deleteOpen, deleteSized}
 
 module _ (z : Sizes) (tb : Table) (e s : ℕ) where
   pub free-done : {h : Header} {wk tr : List ℕ} → h ≡ freeHeader → wk ≡ storeLine (tb .working) (headerLine s h) → tr ≡ joined z (tb .transient) e s → changed Accepted wk tr ≡ freedAt z tb e s
@@ -58,16 +58,13 @@ module _ (z : Sizes) (tb : Table) (e s : ℕ) where
 
     module _ {g : Header} {x : Changed} (at : g ≡ header (tb .working) s) where
       pub delete-free : g .epoch ≡ e → g .kind ≡ 1 → x ≡ freedAt z tb e s → x ≡ deleteAt z tb e s key
-      unfolding deleteAt
-      delete-free d k p = rw (← at, eq-eqb (g .epoch) e d, eq-eqb (g .kind) 1 k) p
+      delete-free d k p = rw (delete-at-is z tb e s key, ← at, eq-eqb (g .epoch) e d, eq-eqb (g .kind) 1 k) p
 
       pub delete-turn : g .epoch ≡ e → (g .kind ≡ 1 → ⊥) → x ≡ turned z tb e s → x ≡ deleteAt z tb e s key
-      unfolding deleteAt
-      delete-turn d k p = rw (← at, eq-eqb (g .epoch) e d, ne-eqb (g .kind) 1 k) p
+      delete-turn d k p = rw (delete-at-is z tb e s key, ← at, eq-eqb (g .epoch) e d, ne-eqb (g .kind) 1 k) p
 
       pub delete-cover : (g .epoch ≡ e → ⊥) → x ≡ covered z tb e s key → x ≡ deleteAt z tb e s key
-      unfolding deleteAt
-      delete-cover d p = rw (← at, ne-eqb (g .epoch) e d) p
+      delete-cover d p = rw (delete-at-is z tb e s key, ← at, ne-eqb (g .epoch) e d) p
 
 -- 9 and 10
 module _ (z : Sizes) (tb : Table) (e key : ℕ) {k : Lookup} (lk : k ≡ lookup z tb (jobName key) e) where

@@ -6,11 +6,11 @@ use Rattle.transient.specs.Store.{Store, Table}
 use Rattle.table.specs.declared.find.Lookup.{Lookup}
 use Rattle.table.specs.declared.find.Lookup.the-variants.{Later, Live, Absent}
 use Rattle.jobs.specs.Keeps.{Keeps, KeepsInside, refused-keeps, shapes, call-keeps}
-use Rattle.job_delete.specs.Delete.{freedAt, turned, covered, deleteAt, deleteJob}
+use Rattle.job_delete.specs.Delete.{deleteAt, deleteJob}
 use Rattle.job_delete.specs.Stages.{deleteLooked, deleteOpen, deleteSized}
 
 looked-keeps : (z : Sizes) (tb : Table) (e key : ℕ) (k : Lookup) → KeepsInside tb (deleteLooked k z tb e key)
-unfolding deleteAt freedAt turned covered
+unfolding deleteAt
 looked-keeps z tb e key Later = refused-keeps tb Newer
 looked-keeps z tb e key (Live s) = search shapes
 looked-keeps z tb e key Absent = refused-keeps tb NoJob

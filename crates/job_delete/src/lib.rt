@@ -11,8 +11,8 @@ ghost use Rattle.transient.specs.Store.{store, table, outcome};
 ghost use Rattle.transient.specs.Calls.{changed};
 ghost use Rattle.transient.specs.Requires.{Entered};
 ghost use Rattle.jobs.specs.Requires.{Reached};
-ghost use Rattle.job_delete.specs.Delete.{freedAt, turned, covered, deleteAt, deleteJob};
-ghost use Rattle.job_delete.specs.Stages.{deleteOpen, deleteSized};
+ghost use Rattle.job_delete.specs.Delete.{deleteAt, deleteJob};
+ghost use Rattle.job_delete.specs.Stages.{freedAt, turned, covered, deleteOpen, deleteSized};
 
 // An ALLOC of this epoch: no other epoch knows it, so its slot is free at once.
 fn free_now(working: &mut [u32], transient: &mut [u32], z: Sizes, e: u32, s: usize) -> Check

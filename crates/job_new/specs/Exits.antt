@@ -2,7 +2,7 @@
 use Prim.Native.Nat.{ℕ, _+_, _≤_, _<_}
 use mathlib.Core.Path.{_≡_}
 use mathlib.Core.Bool.{Bool}
-use mathlib.Core.List.{List}
+use mathlib.Core.List.{List, _∷_}
 use borrow.Author.Tests.{lt-ltb, le-ltb}
 use Rattle.search.specs.declared.Found.{Found}
 use Rattle.search.specs.declared.Found.the-variants.{At, Nothing}
@@ -26,17 +26,17 @@ use Rattle.table.specs.declared.find.Lookup.{Lookup}
 use Rattle.table.specs.declared.find.Lookup.the-variants.{Later, Live, Absent}
 use Rattle.jobs.specs.declared.way.Way.{Way}
 use Rattle.jobs.specs.declared.way.Way.the-variants.{Open, Declined}
-use Rattle.jobs.specs.Job.{Job, jobWords, badJob}
+use Rattle.jobs.specs.Job.{Job, badJob}
 use Rattle.jobs.specs.Way.{wayIn}
 use Rattle.jobs.specs.Requires.{entered-wide, valued-entered, valued-shaped}
 use Rattle.jobs.specs.Laws.{way-valued, way-declined, way-open}
-use Rattle.job_new.specs.New.{newAt, newAbsent, newJob}
-use Rattle.job_new.specs.Stages.{newIn, newOpen, newSized}
+use Rattle.job_new.specs.New.{newAbsent, newJob}
+use Rattle.job_new.specs.Stages.{newAt, newIn, new-absent-is, newOpen, newSized}
 use Rattle.job_new.specs.Requires.{ready-of, ready-entered, ready-placed, placed-value, placed-note, placed-head, placed-after, placed-uid}
 
 module _ (z : Sizes) (tb : Table) (e : ℕ) (j : Job) where
   pub new-done : (s : ℕ) {u : ℕ} {h : Header} {wk a b : List ℕ} → u ≡ note nextUidAt (tb .transient) → h ≡ freshHeader e u
-      → wk ≡ filledSlot z (tb .working) s h (jobWords j) → a ≡ taken z (tb .transient) e s → b ≡ setNextUid a (u + 1) → changed Accepted wk b ≡ newAt z tb e s j
+      → wk ≡ filledSlot z (tb .working) s h (j .key ∷ j .value) → a ≡ taken z (tb .transient) e s → b ≡ setNextUid a (u + 1) → changed Accepted wk b ≡ newAt z tb e s j
   unfolding newAt
   new-done s p q r x y = rw (r, q, y, x, p)
 
@@ -51,12 +51,10 @@ module _ (z : Sizes) (tb : Table) (e : ℕ) (j : Job) where
   -- 12
   module _ {u : ℕ} (ue : u ≡ note nextUidAt (tb .transient)) where
     pub new-uid : mostNumber < u → refused NoUid tb ≡ newAbsent z tb e j
-    unfolding newAbsent
-    new-uid h = rw (← ue, lt-ltb mostNumber u h)
+    new-uid h = rw (new-absent-is z tb e j, ← ue, lt-ltb mostNumber u h)
 
     pub new-room : {x : Changed} → u ≤ mostNumber → x ≡ newIn (room z tb 2) z tb e j → x ≡ newAbsent z tb e j
-    unfolding newAbsent
-    new-room h p = rw (← ue, le-ltb mostNumber u h) p
+    new-room h p = rw (new-absent-is z tb e j, ← ue, le-ltb mostNumber u h) p
 
   -- 9 and 11
   module _ {k : Lookup} (lk : k ≡ lookup z tb (jobName (j .key)) e) where

@@ -9,8 +9,8 @@ use Rattle.table.specs.declared.find.Lookup.{Lookup}
 use Rattle.table.specs.declared.find.Lookup.the-variants.{Later, Live, Absent}
 use Rattle.jobs.specs.Job.{Job}
 use Rattle.jobs.specs.Keeps.{Keeps, KeepsInside, accepted-keeps, refused-keeps, shapes, call-keeps}
-use Rattle.job_new.specs.New.{newAt, newAbsent, newJob}
-use Rattle.job_new.specs.Stages.{newIn, newLooked, newOpen, newSized}
+use Rattle.job_new.specs.New.{newAbsent, newJob}
+use Rattle.job_new.specs.Stages.{newAt, newIn, newLooked, newOpen, newSized}
 
 module _ (z : Sizes) (tb : Table) (e : ℕ) (j : Job) where
   in-keeps : (g : Found) → KeepsInside tb (newIn g z tb e j)
@@ -19,7 +19,7 @@ module _ (z : Sizes) (tb : Table) (e : ℕ) (j : Job) where
   in-keeps Nothing = refused-keeps tb Full
 
   looked-keeps : (k : Lookup) → KeepsInside tb (newLooked k z tb e j)
-  unfolding newAbsent
+  unfolding newAbsent newAt
   looked-keeps Later = refused-keeps tb Newer
   looked-keeps (Live s) = refused-keeps tb JobExists
   looked-keeps Absent = search (shapes, in-keeps)

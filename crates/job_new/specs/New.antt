@@ -1,5 +1,7 @@
 -- 01: "New takes a free slot: ALLOC, label e, the next uid."
 use Prim.Native.Nat.{ℕ, _+_}
+use mathlib.Core.Bool.{cond}
+use mathlib.Core.List.{_∷_}
 use lib.Dec.{ltb}
 use Rattle.search.specs.First.{whereFound}
 use Rattle.reply.specs.declared.Check.{Check}
@@ -9,23 +11,21 @@ use Rattle.image.specs.Layout.{mostNumber, freshHeader}
 use Rattle.transient.specs.declared.sizes.Sizes.{Sizes}
 use Rattle.transient.specs.Layout.{note, nextUidAt, setNextUid}
 use Rattle.transient.specs.Store.{Store, Table, Outcome}
-use Rattle.transient.specs.Calls.{Changed, changed, refused, declines}
+use Rattle.transient.specs.Calls.{Changed, changed, refused}
 use Rattle.table.specs.Find.{room}
 use Rattle.table.specs.Fill.{filledSlot, taken}
-use Rattle.jobs.specs.Job.{Job, jobWords, badJob}
+use Rattle.jobs.specs.Job.{Job, badJob}
 use Rattle.jobs.specs.Way.{onJob}
 
--- the slot s holds the new job
-unfoldable pub newAt : Sizes → Table → ℕ → ℕ → Job → Changed
-newAt z tb e s j =
-    changed Accepted
-    (filledSlot z (tb .working) s (freshHeader e (note nextUidAt (tb .transient))) (jobWords j))
-    (setNextUid (taken z (tb .transient) e s) (note nextUidAt (tb .transient) + 1))
-
--- 12: "next uid above 4,000,000,000"; 13: "table full: too few free slots, where one is needed"
+-- 12: "next uid above 4,000,000,000"; 13: "table full: too few free slots, where one is needed"; else a slot holds the new job:
+-- "N contents of W words: key, then V = W − 1 value words."
 unfoldable pub newAbsent : Sizes → Table → ℕ → Job → Changed
 newAbsent z tb e j =
-    declines (ltb mostNumber (note nextUidAt (tb .transient))) NoUid tb (whereFound (room z tb 2) (λ s. newAt z tb e s j) (refused Full tb))
+    cond (ltb mostNumber (note nextUidAt (tb .transient))) (refused NoUid tb)
+    (whereFound (room z tb 2)
+    (λ s. changed Accepted (filledSlot z (tb .working) s (freshHeader e (note nextUidAt (tb .transient))) (j .key ∷ j .value))
+    (setNextUid (taken z (tb .transient) e s) (note nextUidAt (tb .transient) + 1)))
+    (refused Full tb))
 
 -- 11: "a live job of that key"
 unfoldable pub newJob : Store → ℕ → Job → Outcome Check

@@ -1,20 +1,40 @@
--- New in the stages of its code: with the slot found, with what the look-up found, within an open operation, with the sizes.
-use Prim.Native.Nat.{ℕ}
+-- New in the stages of its code: at a slot, with the slot found, with what the look-up found, within an open operation, with the sizes.
+use Prim.Native.Nat.{ℕ, _+_}
+use mathlib.Core.Path.{_≡_, refl}
+use mathlib.Core.Bool.{cond}
+use mathlib.Core.List.{_∷_}
+use lib.Dec.{ltb}
 use Rattle.search.specs.declared.Found.{Found}
 use Rattle.search.specs.First.{whereFound}
-use Rattle.reply.specs.declared.Refusal.the-variants.{JobExists, Full}
+use Rattle.reply.specs.declared.Check.the-variants.{Accepted}
+use Rattle.reply.specs.declared.Refusal.the-variants.{JobExists, NoUid, Full}
+use Rattle.image.specs.Layout.{mostNumber, freshHeader}
 use Rattle.image.specs.Name.{jobName}
 use Rattle.transient.specs.declared.sizes.Sizes.{Sizes}
+use Rattle.transient.specs.Layout.{note, nextUidAt, setNextUid}
 use Rattle.transient.specs.Store.{Table}
-use Rattle.transient.specs.Calls.{Changed, refused}
+use Rattle.transient.specs.Calls.{Changed, changed, refused}
 use Rattle.table.specs.declared.find.Lookup.{Lookup}
-use Rattle.table.specs.Find.{lookup}
+use Rattle.table.specs.Find.{lookup, room}
+use Rattle.table.specs.Fill.{filledSlot, taken}
 use Rattle.jobs.specs.Job.{Job, badJob}
 use Rattle.jobs.specs.Way.{wayIn, byWay, byLookup}
-use Rattle.job_new.specs.New.{newAt, newAbsent}
+use Rattle.job_new.specs.New.{newAbsent}
+
+-- the slot s holds the new job
+unfoldable pub newAt : Sizes → Table → ℕ → ℕ → Job → Changed
+newAt z tb e s j =
+    changed Accepted
+    (filledSlot z (tb .working) s (freshHeader e (note nextUidAt (tb .transient))) (j .key ∷ j .value))
+    (setNextUid (taken z (tb .transient) e s) (note nextUidAt (tb .transient) + 1))
 
 abbrev pub newIn : Found → Sizes → Table → ℕ → Job → Changed
 newIn f z tb e j = whereFound f (λ s. newAt z tb e s j) (refused Full tb)
+
+pub new-absent-is : (z : Sizes) (tb : Table) (e : ℕ) (j : Job)
+    → newAbsent z tb e j ≡ cond (ltb mostNumber (note nextUidAt (tb .transient))) (refused NoUid tb) (newIn (room z tb 2) z tb e j)
+unfolding newAbsent newAt
+new-absent-is z tb e j = refl
 
 abbrev pub newLooked : Lookup → Sizes → Table → ℕ → Job → Changed
 newLooked k z tb e j = byLookup k tb (λ s. refused JobExists tb) (newAbsent z tb e j)

@@ -13,8 +13,8 @@ ghost use Rattle.transient.specs.Requires.{Entered};
 ghost use Rattle.table.specs.Find.{room};
 ghost use Rattle.jobs.specs.Job.{job};
 ghost use Rattle.jobs.specs.Requires.{Valued};
-ghost use Rattle.job_new.specs.New.{newAt, newAbsent, newJob};
-ghost use Rattle.job_new.specs.Stages.{newIn, newOpen, newSized};
+ghost use Rattle.job_new.specs.New.{newAbsent, newJob};
+ghost use Rattle.job_new.specs.Stages.{newAt, newIn, newOpen, newSized};
 ghost use Rattle.job_new.specs.Requires.{Ready, Placed};
 
 fn new_at(

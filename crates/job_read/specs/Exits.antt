@@ -29,7 +29,8 @@ use Rattle.table.specs.declared.find.Lookup.{Lookup}
 use Rattle.table.specs.declared.find.Lookup.the-variants.{Later, Live, Absent}
 use Rattle.job_read.specs.declared.Reading.{Reading}
 use Rattle.job_read.specs.declared.Reading.the-variants.{Shown, Declined}
-use Rattle.job_read.specs.Read.{readOpen, readSized, readJob, shownValue, readNumber, readPosition}
+use Rattle.job_read.specs.Read.{readSized, readJob, shownValue, readNumber, readPosition}
+use Rattle.job_read.specs.Stages.{readOpen, read-sized-is}
 use Rattle.job_read.specs.Laws.{read-slot}
 
 -- ---- which slot
@@ -67,8 +68,7 @@ module _ (z : Sizes) (tb : Table) (thread key : ℕ) where
     read-key k = rw (lt-leb (z .t) thread h, eq-eqb key 0 k)
 
     pub read-goes : {e : ℕ} {r : Reading} → (key ≡ 0 → ⊥) → e ≡ openEpoch (tb .transient) thread → r ≡ readOpen z tb key e → r ≡ readSized thread key z tb
-    unfolding readSized
-    read-goes k q p = rw (lt-leb (z .t) thread h, ne-eqb key 0 k, ← q) p
+    read-goes k q p = rw (read-sized-is thread key z tb, lt-leb (z .t) thread h, ne-eqb key 0 k, ← q) p
 
 module _ (wk l tr : List ℕ) (thread key : ℕ) {k : Check} (c : k ≡ entryCheck (store wk l tr)) where
   pub read-declines : {r : Refusal} → k ≡ Refused r → Declined r ≡ readJob (store wk l tr) thread key

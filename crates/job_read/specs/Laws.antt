@@ -19,12 +19,13 @@ use Rattle.transient.specs.Layout.{openEpoch}
 use Rattle.transient.specs.Store.{Table, store, table, sizesOf}
 use Rattle.transient.specs.Entry.{entryCheck}
 use Rattle.transient.specs.Passed.{entry-with}
-use Rattle.table.specs.Find.{liveSlot, lookedUp, lookup}
+use Rattle.table.specs.Find.{liveSlot, lookup}
+use Rattle.table.specs.Requires.{lookedUp}
 use Rattle.table.specs.Laws.{live-below, lookup-below}
 use Rattle.table.specs.declared.find.Lookup.{Lookup}
 use Rattle.table.specs.declared.find.Lookup.the-variants.{Later, Live, Absent}
 use Rattle.job_read.specs.declared.Reading.the-variants.{Shown, Declined}
-use Rattle.job_read.specs.Read.{readLooked, readOpen, readSized, readJob}
+use Rattle.job_read.specs.Read.{readLooked, readSized, readJob}
 
 module _ (z : Sizes) (tb : Table) (key s : ℕ) where
   found-below : (f : Found) → liveSlot z tb (jobName key) ≡ f → readLooked (lookedUp f) ≡ Shown s → s < z .n
@@ -37,7 +38,7 @@ module _ (z : Sizes) (tb : Table) (key s : ℕ) where
   looked-below e Absent q r = let x : _≡_ {A = ℕ} 0 1 = cc in absurd (omega arith)
 
   sized-below : (thread : ℕ) → readSized thread key z tb ≡ Shown s → s < z .n
-  unfolding readSized readOpen
+  unfolding readSized
   sized-below thread h = go (leb (z .t) thread) (eqb key 0) (eqb (openEpoch (tb .transient) thread) 0) h
     where
       go : (a b c : Bool)

@@ -1,3 +1,4 @@
 pub mod Read
+pub mod Stages
 pub mod Laws
 pub mod Exits

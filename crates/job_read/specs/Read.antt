@@ -4,6 +4,7 @@ use Prim.Native.Nat.{ℕ, _+_}
 use mathlib.Core.Bool.{cond}
 use mathlib.Core.List.{List, []}
 use lib.Dec.{leb, eqb}
+use Rattle.search.specs.First.{whereFound}
 use Rattle.reply.specs.declared.Refusal.the-variants.{NoThread, BadArgument, Newer, NoJob}
 use Rattle.reply.specs.Refusals.{refusalNumber, declinedNumber, byCheck}
 use Rattle.image.specs.Layout.{contentsAt, valueAt, slotsOf, widthOf}
@@ -12,7 +13,7 @@ use Rattle.transient.specs.declared.sizes.Sizes.{Sizes}
 use Rattle.transient.specs.Layout.{openEpoch}
 use Rattle.transient.specs.Store.{Store, Table, tableOf, sizesOf}
 use Rattle.transient.specs.Entry.{entryCheck}
-use Rattle.table.specs.Find.{liveSlot, lookedUp, lookup}
+use Rattle.table.specs.Find.{liveSlot, lookup}
 use Rattle.table.specs.declared.find.Lookup.{Lookup}
 use Rattle.table.specs.declared.find.Lookup.the-variants.{Later, Live, Absent}
 use Rattle.job_read.specs.declared.Reading.{Reading}
@@ -24,16 +25,13 @@ readLooked Later = Declined Newer
 readLooked (Live s) = Shown s
 readLooked Absent = Declined NoJob
 
--- with no operation open refusal 9 is not asked
-unfoldable pub readOpen : Sizes → Table → ℕ → ℕ → Reading
-readOpen z tb key e = readLooked (cond (eqb e 0) (lookedUp (liveSlot z tb (jobName key))) (lookup z tb (jobName key) e))
-
--- 5, 8, then 9 and 10
+-- 5, 8, then 9 and 10; with no operation open refusal 9 is not asked
 unfoldable pub readSized : ℕ → ℕ → Sizes → Table → Reading
 readSized thread key z tb =
     cond (leb (z .t) thread) (Declined NoThread)
     (cond (eqb key 0) (Declined BadArgument)
-    (readOpen z tb key (openEpoch (tb .transient) thread)))
+    (readLooked (cond (eqb (openEpoch (tb .transient) thread) 0) (whereFound (liveSlot z tb (jobName key)) Live Absent)
+    (lookup z tb (jobName key) (openEpoch (tb .transient) thread)))))
 
 unfoldable pub readJob : Store → ℕ → ℕ → Reading
 readJob st thread key = byCheck (entryCheck st) Declined (readSized thread key (sizesOf (tableOf st)) (tableOf st))

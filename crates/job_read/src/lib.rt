@@ -10,7 +10,8 @@ ghost use Rattle.image.specs.Layout.{slotsOf, widthOf, contentsAt, valueAt};
 ghost use Rattle.image.specs.Requires.{Slot};
 ghost use Rattle.transient.specs.Store.{store, table};
 ghost use Rattle.transient.specs.Requires.{Entered};
-ghost use Rattle.job_read.specs.Read.{readOpen, readSized, readJob, shownValue, readNumber, readPosition};
+ghost use Rattle.job_read.specs.Read.{readSized, readJob, shownValue, readNumber, readPosition};
+ghost use Rattle.job_read.specs.Stages.{readOpen};
 
 // The slot whose value is shown, or why none is.
 pub enum Reading {

@@ -2,7 +2,7 @@
 use Prim.Native.Nat.{ℕ}
 use mathlib.Core.Path.{_≡_}
 use mathlib.Core.Bool.{Bool}
-use mathlib.Core.List.{List}
+use mathlib.Core.List.{List, _∷_}
 use borrow.Author.Tests.{eq-eqb, ne-eqb}
 use Rattle.search.specs.declared.Found.{Found}
 use Rattle.search.specs.declared.Found.the-variants.{At, Nothing}
@@ -21,17 +21,18 @@ use Rattle.transient.specs.Calls.{Changed, changed, refused}
 use Rattle.transient.specs.Requires.{entered-notes}
 use Rattle.transient.specs.Passed.{on-declined, on-passed, passing}
 use Rattle.table.specs.Find.{lookup, room}
-use Rattle.table.specs.Fill.{setValue, filledSlot, taken}
+use Rattle.table.specs.Fill.{filledSlot, taken}
+use Rattle.table.specs.Requires.{setValue}
 use Rattle.table.specs.declared.find.Lookup.{Lookup}
 use Rattle.table.specs.declared.find.Lookup.the-variants.{Later, Live, Absent}
 use Rattle.jobs.specs.declared.way.Way.{Way}
 use Rattle.jobs.specs.declared.way.Way.the-variants.{Open, Declined}
-use Rattle.jobs.specs.Job.{Job, jobWords, badJob}
+use Rattle.jobs.specs.Job.{Job, badJob}
 use Rattle.jobs.specs.Way.{wayIn}
 use Rattle.jobs.specs.Requires.{reaching}
 use Rattle.jobs.specs.Laws.{way-valued, way-declined, way-open}
-use Rattle.job_set.specs.Set.{rewritten, updated, setAt, setJob}
-use Rattle.job_set.specs.Stages.{setOpened, setSized}
+use Rattle.job_set.specs.Set.{setAt, setJob}
+use Rattle.job_set.specs.Stages.{rewritten, updated, set-at-is, setOpened, setSized}
 
 module _ (z : Sizes) (tb : Table) (e s : ℕ) where
   pub rewrite-done : (value : List ℕ) {wk tr : List ℕ} → wk ≡ setValue z (tb .working) s value → tr ≡ setWaiting z (tb .transient) e s → changed Accepted wk tr ≡ rewritten z tb e s value
@@ -40,12 +41,10 @@ module _ (z : Sizes) (tb : Table) (e s : ℕ) where
 
   module _ (j : Job) {g : Header} {x : Changed} (at : g ≡ header (tb .working) s) where
     pub set-same : g .epoch ≡ e → x ≡ rewritten z tb e s (j .value) → x ≡ setAt z tb e s j
-    unfolding setAt
-    set-same d p = rw (← at, eq-eqb (g .epoch) e d) p
+    set-same d p = rw (set-at-is z tb e s j, ← at, eq-eqb (g .epoch) e d) p
 
     pub set-older : (g .epoch ≡ e → ⊥) → x ≡ updated z tb e s j → x ≡ setAt z tb e s j
-    unfolding setAt
-    set-older d p = rw (← at, ne-eqb (g .epoch) e d) p
+    set-older d p = rw (set-at-is z tb e s j, ← at, ne-eqb (g .epoch) e d) p
 
 -- 13
 module _ (z : Sizes) (tb : Table) (e s : ℕ) (j : Job) {f : Found} (fr : f ≡ room z tb 2) where
@@ -53,7 +52,7 @@ module _ (z : Sizes) (tb : Table) (e s : ℕ) (j : Job) {f : Found} (fr : f ≡ 
   unfolding updated
   update-full a = rw (← fr, a)
 
-  pub update-done : {i : ℕ} {g h : Header} {wk tr : List ℕ} → f ≡ At i → g ≡ header (tb .working) s → h ≡ updatedHeader e (g .uid) → wk ≡ filledSlot z (tb .working) i h (jobWords j)
+  pub update-done : {i : ℕ} {g h : Header} {wk tr : List ℕ} → f ≡ At i → g ≡ header (tb .working) s → h ≡ updatedHeader e (g .uid) → wk ≡ filledSlot z (tb .working) i h (j .key ∷ j .value)
       → tr ≡ setRetired z (taken z (tb .transient) e i) s e → changed Accepted wk tr ≡ updated z tb e s j
   unfolding updated
   update-done a at hd p q = rw (← fr, a, p, q, hd, at)

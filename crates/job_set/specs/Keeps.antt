@@ -7,11 +7,11 @@ use Rattle.table.specs.declared.find.Lookup.{Lookup}
 use Rattle.table.specs.declared.find.Lookup.the-variants.{Later, Live, Absent}
 use Rattle.jobs.specs.Job.{Job}
 use Rattle.jobs.specs.Keeps.{Keeps, KeepsInside, refused-keeps, shapes, call-keeps}
-use Rattle.job_set.specs.Set.{rewritten, updated, setAt, setJob}
+use Rattle.job_set.specs.Set.{setAt, setJob}
 use Rattle.job_set.specs.Stages.{setLooked, setOpened, setSized}
 
 looked-keeps : (z : Sizes) (tb : Table) (e : ℕ) (j : Job) (k : Lookup) → KeepsInside tb (setLooked k z tb e j)
-unfolding setAt rewritten updated
+unfolding setAt
 looked-keeps z tb e j Later = refused-keeps tb Newer
 looked-keeps z tb e j (Live s) = search shapes
 looked-keeps z tb e j Absent = refused-keeps tb NoJob

@@ -12,8 +12,8 @@ ghost use Rattle.transient.specs.Calls.{changed};
 ghost use Rattle.transient.specs.Requires.{Entered};
 ghost use Rattle.jobs.specs.Job.{job};
 ghost use Rattle.jobs.specs.Requires.{Valued, Held};
-ghost use Rattle.job_set.specs.Set.{rewritten, updated, setAt, setJob};
-ghost use Rattle.job_set.specs.Stages.{setOpened, setSized};
+ghost use Rattle.job_set.specs.Set.{setAt, setJob};
+ghost use Rattle.job_set.specs.Stages.{rewritten, updated, setOpened, setSized};
 
 fn rewrite(
     working: &mut [u32],

@@ -1,7 +1,7 @@
 -- A job as a call is given it, and how a later version or an anti-payload takes a slot.
 use Prim.Native.Nat.{ℕ, _-_}
 use mathlib.Core.Bool.{Bool, not, _||_}
-use mathlib.Core.List.{List, _∷_}
+use mathlib.Core.List.{List}
 use lib.ListN.{length}
 use lib.Dec.{eqb}
 use Rattle.search.specs.declared.Found.{Found}
@@ -21,10 +21,6 @@ pub record Job : Type 0 where
 
 abbrev pub job : ℕ → List ℕ → Job
 job key value = record { key = key; value = value }
-
--- "N contents of W words: key, then V = W − 1 value words."
-abbrev pub jobWords : Job → List ℕ
-jobWords j = j .key ∷ j .value
 
 -- 8: "key 0; for new and set, value length not V"
 unfoldable pub badJob : Sizes → Job → Bool

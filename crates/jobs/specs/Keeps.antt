@@ -15,7 +15,7 @@ use Rattle.image.specs.declared.header.Header.{Header}
 use Rattle.transient.specs.declared.sizes.Sizes.{Sizes}
 use Rattle.transient.specs.Store.{Store, Table, tableOf, sizesOf, Outcome, afterCheck}
 use Rattle.transient.specs.Entry.{entryCheck}
-use Rattle.transient.specs.Calls.{Changed, changed, refused, declines, inStore, onStore}
+use Rattle.transient.specs.Calls.{Changed, changed, refused, inStore, onStore}
 use Rattle.jobs.specs.declared.way.Way.{Way}
 use Rattle.jobs.specs.declared.way.Way.the-variants.{Open, Declined}
 use Rattle.jobs.specs.Job.{superseded}
@@ -40,9 +40,6 @@ pub either-keeps : (tb : Table) (b : Bool) (c d : Changed) → KeepsInside tb c 
 either-keeps tb true c d x y = x
 either-keeps tb false c d x y = y
 
-pub declines-keeps : (tb : Table) (b : Bool) (r : Refusal) (next : Changed) → KeepsInside tb next → KeepsInside tb (declines b r tb next)
-declines-keeps tb b r next x = either-keeps tb b (refused r tb) next (refused-keeps tb r) x
-
 pub way-keeps : (tb : Table) (k : Way) (next : ℕ → Changed) → ((e : ℕ) → KeepsInside tb (next e)) → KeepsInside tb (byWay k tb next)
 way-keeps tb (Open e) next x = x e
 way-keeps tb (Declined r) next x = refused-keeps tb r
@@ -51,7 +48,7 @@ pub super-keeps : (g : Found) (z : Sizes) (tb : Table) (e s : ℕ) (h : Header) 
 super-keeps (At f) z tb e s h words = accepted-keeps tb _ _
 super-keeps Nothing z tb e s h words = refused-keeps tb Full
 
-pub ruleset shapes = (accepted-keeps, refused-keeps, either-keeps, declines-keeps, way-keeps, super-keeps)
+pub ruleset shapes = (accepted-keeps, refused-keeps, either-keeps, way-keeps, super-keeps)
 
 -- ---- the whole call
 after-keeps : (k : Check) (st : Store) (c : Changed) → KeepsInside (tableOf st) c → Keeps st (afterCheck k Refused st (inStore st c))

@@ -31,9 +31,9 @@ use Rattle.transient.specs.Store.{Table, table}
 use Rattle.transient.specs.Requires.{Entered, note-after, note-head, note-slot, shaped-slot, slot-note, slot-working, slot-head, entered-head}
 use Rattle.transient.specs.Clearing.{emptying-start, emptying-next}
 use Rattle.table.specs.declared.find.Lookup.the-variants.{Later, Live, Absent}
-use Rattle.table.specs.Find.{newerAt, newer, liveAt, liveSlot, lookup, freeAt, room}
-use Rattle.table.specs.Fill.{setValue, filledSlot, joined, taken}
-use Rattle.table.specs.Requires.{RingStart, sooner, ring-of, ring-header, shaped-in, slot-value, value-slot, header-after}
+use Rattle.table.specs.Find.{newerAt, liveAt, liveSlot, lookup, freeAt, room}
+use Rattle.table.specs.Fill.{filledSlot, joined, taken}
+use Rattle.table.specs.Requires.{RingStart, sooner, setValue, ring-of, ring-header, shaped-in, slot-value, value-slot, header-after}
 use Rattle.table.specs.Laws.{key-then-value}
 
 -- ---- newer, live: the name is the last part of the tests, and the first that is looked at
@@ -154,11 +154,10 @@ module _ {p q : ℕ → Bool} {n s live : ℕ} {a : Bool} (y : Ascending p q n s
 
 module _ (z : Sizes) (tb : Table) (name : Name) (e : ℕ) {s live : ℕ} (y : Ascending (newerAt z (tb .working) name e) (liveAt z tb name) (z .n) s live) where
   pub lookup-later : {a : Bool} → s < z .n → a ≡ newerAt z (tb .working) name e s → a ≡ true → Later ≡ lookup z tb name e
-  unfolding lookup newer
+  unfolding lookup
   lookup-later h q t = rw (ascending-newer y h q t)
 
-  none-newer : z .n ≤ s → newer z (tb .working) name e ≡ false
-  unfolding newer
+  none-newer : z .n ≤ s → anyOf (newerAt z (tb .working) name e) (z .n) ≡ false
   none-newer h = none-some (newerAt z (tb .working) name e) (z .n) (λ k l. y .none k (omega (arith, y .low)))
 
   live-is : live < z .n → first (liveAt z tb name) 0 (z .n) ≡ live

@@ -1,15 +1,10 @@
 -- What filling or freeing a slot leaves in the working image and in the notes.
-use Prim.Native.Nat.{ℕ, _+_}
+use Prim.Native.Nat.{ℕ}
 use mathlib.Core.List.{List}
 use Rattle.image.specs.declared.header.Header.{Header}
-use Rattle.image.specs.Layout.{contentsAt}
-use Rattle.image.specs.Line.{line, headerLine, contentsLine, storeLine}
+use Rattle.image.specs.Line.{headerLine, contentsLine, storeLine}
 use Rattle.transient.specs.declared.sizes.Sizes.{Sizes}
 use Rattle.transient.specs.Layout.{setLast, setRetired, setWaiting}
-
--- the value words of a slot
-unfoldable pub setValue : Sizes → List ℕ → ℕ → List ℕ → List ℕ
-setValue z wk s value = storeLine wk (line (contentsAt (z .n) (z .w) s + 1) value)
 
 -- a slot's contents and header
 unfoldable pub filledSlot : Sizes → List ℕ → ℕ → Header → List ℕ → List ℕ

@@ -21,9 +21,6 @@ use Rattle.table.specs.declared.find.Lookup.the-variants.{Later, Live, A
 unfoldable pub newerAt : Sizes → List ℕ → Name → ℕ → ℕ → Bool
 newerAt z wk name e s = filledKind (header wk s .kind) && (sameName (nameAt wk (z .n) (z .w) s) name && ltb e (header wk s .epoch))
 
-unfoldable pub newer : Sizes → List ℕ → Name → ℕ → Bool
-newer z wk name e = anyOf (newerAt z wk name e) (z .n)
-
 -- "A payload is live when its kind is 1 or 2 and it is not retired."
 unfoldable pub liveAt : Sizes → Table → Name → ℕ → Bool
 liveAt z tb name s =
@@ -33,12 +30,9 @@ liveAt z tb name s =
 unfoldable pub liveSlot : Sizes → Table → Name → Found
 liveSlot z tb name = firstOf (liveAt z tb name) (z .n)
 
-abbrev pub lookedUp : Found → Lookup
-lookedUp f = whereFound f Live Absent
-
 -- refusal 9 first, then the live job
 unfoldable pub lookup : Sizes → Table → Name → ℕ → Lookup
-lookup z tb name e = cond (newer z (tb .working) name e) Later (lookedUp (liveSlot z tb name))
+lookup z tb name e = cond (anyOf (newerAt z (tb .working) name e) (z .n)) Later (whereFound (liveSlot z tb name) Live Absent)
 
 -- "Calls other than recover take a kind above 3 as free"
 unfoldable pub freeAt : List ℕ → ℕ → Bool

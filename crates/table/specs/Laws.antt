@@ -24,8 +24,9 @@ use Rattle.transient.specs.declared.sizes.Sizes.{Sizes}
 use Rattle.transient.specs.Layout.{note, lastAt}
 use Rattle.transient.specs.Store.{Table}
 use Rattle.table.specs.declared.find.Lookup.the-variants.{Later, Live}
-use Rattle.table.specs.Find.{newer, liveAt, liveSlot, lookedUp, lookup, freeAt, room}
-use Rattle.table.specs.Fill.{setValue, filledSlot}
+use Rattle.table.specs.Find.{liveAt, liveSlot, lookup, freeAt, room}
+use Rattle.table.specs.Fill.{filledSlot}
+use Rattle.table.specs.Requires.{newer, lookedUp, setValue}
 
 -- ---- a filled slot
 module _ (z : Sizes) (l : List ℕ) (s : ℕ) (h : Header) (words : List ℕ) where
@@ -91,7 +92,7 @@ module _ (z : Sizes) (tb : Table) where
   live-below name s e = found-first (liveAt z tb name) (z .n) e .below
 
   pub lookup-below : (name : Name) (e s : ℕ) → lookup z tb name e ≡ Live s → s < z .n
-  unfolding lookup
+  unfolding lookup newer
   lookup-below name e s h =
       ⊎-elim
       (λ (y : newer z (tb .working) name e ≡ true). let q : Later ≡ Live s = rw y at h in let x : _≡_ {A = ℕ} 0 1 = cc in absurd (omega arith))

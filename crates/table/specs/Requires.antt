@@ -1,4 +1,5 @@
--- What functions inside require: a place on the way round the table, and a value for a slot.
+-- What functions inside require: a place on the way round the table, and a value for a slot. And parts of definitions that
+-- contracts inside and laws name: of a look-up, and a value stored.
 use Prim.Native.Nat.{ℕ, _+_, _*_, _-_, _≤_, _<_}
 use mathlib.Core.Path.{_≡_}
 use mathlib.Core.Bool.{Bool, cond}
@@ -6,11 +7,19 @@ use mathlib.Core.List.{List}
 use lib.ListN.{length}
 use lib.Dec.{ltb}
 use native.Mathlib.Omega.{arith}
+use Rattle.search.specs.First.{whereFound}
+use Rattle.search.specs.Some.{anyOf}
 use Rattle.search.specs.Ring.{ringSlot, ring-below}
-use Rattle.image.specs.Layout.{mostSlots, headerWords}
+use Rattle.search.specs.declared.Found.{Found}
+use Rattle.image.specs.Layout.{mostSlots, headerWords, contentsAt}
+use Rattle.image.specs.Line.{line, storeLine}
+use Rattle.image.specs.Name.{Name}
 use Rattle.image.specs.Requires.{Slot, HeaderFits, slot, slot-header, slot-after}
 use Rattle.transient.specs.declared.sizes.Sizes.{Sizes}
 use Rattle.transient.specs.Requires.{Shaped}
+use Rattle.table.specs.declared.find.Lookup.{Lookup}
+use Rattle.table.specs.declared.find.Lookup.the-variants.{Live, Absent}
+use Rattle.table.specs.Find.{newerAt}
 
 -- ---- round the table
 pub record Ring (n last k : ℕ) : Type 0 where
@@ -38,7 +47,18 @@ shaped-in y h = slot (y .working) h
 unfoldable pub sooner : Bool → ℕ → ℕ → ℕ → ℕ
 sooner b n s live = cond b (cond (ltb live n) live s) live
 
+-- ---- a look-up: refusal 9, and the live slot
+unfoldable pub newer : Sizes → List ℕ → Name → ℕ → Bool
+newer z wk name e = anyOf (newerAt z wk name e) (z .n)
+
+abbrev pub lookedUp : Found → Lookup
+lookedUp f = whereFound f Live Absent
+
 -- ---- a value for a slot
+-- the value words of a slot
+unfoldable pub setValue : Sizes → List ℕ → ℕ → List ℕ → List ℕ
+setValue z wk s value = storeLine wk (line (contentsAt (z .n) (z .w) s + 1) value)
+
 pub record SlotValue (l : List ℕ) (z : Sizes) (s : ℕ) (value : List ℕ) : Type 0 where
   pub slot : Slot l (z .n) (z .w) s
   pub words : length value ≡ z .w - 1

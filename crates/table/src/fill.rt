@@ -9,8 +9,8 @@ ghost use Rattle.image.specs.Layout.{contentsAt};
 ghost use Rattle.image.specs.Line.{stored};
 ghost use Rattle.image.specs.Requires.{Slot};
 ghost use Rattle.transient.specs.Requires.{NoteOf};
-ghost use Rattle.table.specs.Fill.{setValue, filledSlot, taken, joined};
-ghost use Rattle.table.specs.Requires.{SlotValue};
+ghost use Rattle.table.specs.Fill.{filledSlot, taken, joined};
+ghost use Rattle.table.specs.Requires.{SlotValue, setValue};
 
 fn store_zeros(dst: &mut [u32], b: usize, k: usize)
     requires { ⌜ b + k ≤ length (now dst) ⌝ }

@@ -1,6 +1,5 @@
 -- A call on the working image and the notes. 01: "Change calls never store into the lasting image."
 use Prim.Native.Nat.{ℕ}
-use mathlib.Core.Bool.{Bool, cond}
 use mathlib.Core.List.{List}
 use Rattle.reply.specs.declared.Check.{Check}
 use Rattle.reply.specs.declared.Check.the-variants.{Refused}
@@ -20,10 +19,6 @@ changed r wk tr = record { reply = r; table = table wk tr }
 -- "Every refusal leaves both images and the notes unchanged"
 abbrev pub refused : Refusal → Table → Changed
 refused r tb = record { reply = Refused r; table = tb }
-
--- where the condition holds that refusal, else what follows
-abbrev pub declines : Bool → Refusal → Table → Changed → Changed
-declines b r tb next = cond b (refused r tb) next
 
 abbrev pub inStore : Store → Changed → Outcome Check
 inStore st ch = outcome (ch .reply) (ch .table .working) (st .persistent) (ch .table .transient)
