@@ -1,6 +1,6 @@
 -- The ways out of this crate's functions: a law for each, and for each call.
 use Prim.Native.Nat.{ℕ, _-_, _≤_, _<_}
-use mathlib.Core.Path.{_≡_, refl, sym, ap, _∙_}
+use mathlib.Core.Path.{_≡_, refl, sym, _∙_}
 use mathlib.Core.Bool.{Bool, true, false, _&&_, and-true, and-false}
 use mathlib.Core.List.{List}
 use lib.ListN.{length, getD}
@@ -17,7 +17,7 @@ use Rattle.reply.specs.declared.Refusal.the-variants.{BadSizes, BadClock, BadSl
 use Rattle.reply.specs.Refusals.{declinedNumber}
 use Rattle.image.specs.declared.header.Header.{Header}
 use Rattle.image.specs.Layout.{mostNumber, filledKind, header, keyAt, slotsOf, widthOf, clockOf, shapeOk, clockOk}
-use Rattle.image.specs.Name.{Name, jobName, keyOf, nameAt, sameName, unnamed, same-name}
+use Rattle.image.specs.Name.{Name, jobName, nameAt, sameName, unnamed, same-name}
 use Rattle.image.specs.Requires.{Sized, Slot, HeaderFits, slot}
 use Rattle.image.specs.Laws.{shaped}
 use Rattle.chains.specs.Chains.{Under}
@@ -276,9 +276,9 @@ module _ {l : List ℕ} {n w i : ℕ} {heads₀ below₀ heads below : List ℕ}
 
 -- ---- the walk for a survivor of one name
 -- it has the key of the name
-as-key : (l : List ℕ) (n w : ℕ) (name : Name) (t : ℕ) → survivesAs l n w name t ≡ true → keyAt l n w t ≡ keyOf name
+as-key : (l : List ℕ) (n w : ℕ) (name : Name) (t : ℕ) → survivesAs l n w name t ≡ true → keyAt l n w t ≡ name
 unfolding survivesAs nameAt
-as-key l n w name t e = ap keyOf (same-name (nameAt l n w t) name (and-right (survivor l n t) (sameName (nameAt l n w t) name) e))
+as-key l n w name t e = same-name (nameAt l n w t) name (and-right (survivor l n t) (sameName (nameAt l n w t) name) e)
 
 pub named-marked : {l : List ℕ} {n w s : ℕ} {flags : List Bool} {below : List ℕ} → KeysAt l n w s flags below → SlotMarked l n w s flags
 named-marked z = slot-marked (z .chains .marked) (z .within)
