@@ -27,8 +27,8 @@ use Rattle.image.specs.Laws.{shaped, stored-whole}
 use Rattle.transient.specs.Layout.{threadsOf, threadsOk, blank}
 use Rattle.transient.specs.Store.{store, Outcome, outcome}
 use Rattle.transient.specs.Requires.{Blanking}
-use Rattle.survival.specs.Survivors.{survivor, keptAnti}
-use Rattle.survival.specs.Requires.{Headers, Marked, AllMarked, headers-of, header-in, marks}
+use Rattle.survival.specs.Survivors.{survivor}
+use Rattle.survival.specs.Requires.{keptAnti, Headers, Marked, AllMarked, headers-of, header-in, marks}
 use Rattle.survival.specs.Laws.{flag-is}
 use Rattle.acceptance.specs.Accept.{headCheck, slotsCheck}
 use Rattle.acceptance.specs.Sound.{Sound, sound, uid-top}
@@ -39,7 +39,7 @@ use Rattle.recovery.specs.Requires.{uidOf, recoverEntryCheck, FlagAt, fl
 
 -- ---- what is freed next
 pub anti-is : (l : List ℕ) (s : ℕ) {c : ℕ} {r : Bool} → c ≡ clockOf l → r ≡ keptAnti c (header l s) → r ≡ antiAt l s
-unfolding antiAt
+unfolding antiAt keptAnti
 anti-is l s e h = rw (← e) h
 
 module _ (l : List ℕ) (n s : ℕ) (flags : List Bool) {h : Header} {f : Bool} (z : FlagAt l n s flags) (at : h ≡ header l s) (fl : f ≡ filledKind (h .kind)) where

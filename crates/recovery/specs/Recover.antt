@@ -16,13 +16,14 @@ use Rattle.image.specs.Layout.{filledKind, header, slotsOf, widthOf, clockOf, f
 use Rattle.image.specs.Line.{headerLine, storeLine}
 use Rattle.transient.specs.Store.{Store, store, Outcome, outcome, afterCheck}
 use Rattle.transient.specs.Layout.{threadsOk, blank}
-use Rattle.survival.specs.Survivors.{survivor, keptAnti}
+use Rattle.survival.specs.Survivors.{kept, survivor}
 use Rattle.acceptance.specs.Accept.{headCheck, slotsCheck}
 use Rattle.recovery.specs.declared.Recovery.{Recovery}
 use Rattle.recovery.specs.declared.Recovery.the-variants.{WentOn, Done, Declined}
 
+-- a kept DELETE
 unfoldable pub antiAt : List ℕ → ℕ → Bool
-antiAt l s = keptAnti (clockOf l) (header l s)
+antiAt l s = kept (clockOf l) (header l s) && eqb (header l s .kind) 3
 
 -- "every filled slot that neither survives nor is a kept DELETE"
 unfoldable pub stale : List ℕ → ℕ → ℕ → Bool

@@ -22,6 +22,7 @@ use Rattle.image.specs.Name.{Name, Named, nameAt, name-same, unnamed-false, nam
 use Rattle.image.specs.Requires.{header-fits, sized-after}
 use Rattle.image.specs.Laws.{length-store, front-past-header, header-same, header-other, contents-past-header, key-past-header, value-past-header}
 use Rattle.survival.specs.Survivors.{survivor}
+use Rattle.survival.specs.Requires.{keptAnti}
 use Rattle.acceptance.specs.Accept.{nameless, survivesAs, nameBelow, imageCheck}
 use Rattle.recovery.specs.Recover.{antiAt, stale, nextFreed}
 use Rattle.acceptance.specs.Sound.{accepted-says, says-accepted}
@@ -49,7 +50,7 @@ record Spent (l : List ℕ) (n s : ℕ) : Type 0 where
   covered : Covered (clockOf l) (header l) n s
 
 stale-spent : (l : List ℕ) (n s : ℕ) → First (stale l n) n s → Spent l n s
-unfolding stale filledAt survivor antiAt
+unfolding stale filledAt survivor antiAt keptAnti
 stale-spent l n s f =
     let full = filledKind (header l s .kind) in
     let out = not (survivor l n s) in
@@ -68,7 +69,7 @@ unfolding stale filledAt
 none-stale l n s u f d = not-false (antiAt l s) (rw (f, d) at u)
 
 anti-spent : (l : List ℕ) (n s : ℕ) → ((t : ℕ) → t < n → stale l n t ≡ false) → First (antiAt l) n s → Spent l n s
-unfolding filledAt survivor antiAt
+unfolding filledAt survivor antiAt keptAnti
 anti-spent l n s none f =
     let a = anti-says (clockOf l) (header l s) (f .passes) in
     record {
