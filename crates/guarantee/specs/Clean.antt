@@ -22,7 +22,8 @@ use Rattle.transient.specs.Store.{Store, store, tableOf, sizesOf}
 use Rattle.transient.specs.Requires.{Notes}
 use Rattle.transient.specs.Laws.{threads-head, blank-length, blank-uid, blank-phase, blank-open, blank-retired}
 use Rattle.survival.specs.Survivors.{kept, wins, survives, survivor}
-use Rattle.acceptance.specs.Accept.{blankHeader, proper, sameVersion, versionBelow, imageCheck}
+use Rattle.acceptance.specs.Accept.{blankHeader, proper, versionBelow, imageCheck}
+use Rattle.acceptance.specs.Requires.{sameVersion}
 use Rattle.acceptance.specs.Sound.{Accepts, accepted-says}
 use Rattle.recovery.specs.Steps.{survivor-named, survivors-apart}
 use Rattle.crash.specs.Reference.{Value}

@@ -16,9 +16,10 @@ use Rattle.image.specs.Laws.{name-contents, value-contents}
 use Rattle.transient.specs.declared.sizes.Sizes.{Sizes}
 use Rattle.transient.specs.Store.{Store}
 use Rattle.survival.specs.Survivors.{kept, survivor}
-use Rattle.acceptance.specs.Accept.{nameless, sameVersion, versionBelow, survivesAs, nameBelow, imageCheck}
+use Rattle.acceptance.specs.Accept.{versionBelow, survivesAs, nameBelow, imageCheck}
+use Rattle.acceptance.specs.Requires.{nameless, sameVersion}
 use Rattle.acceptance.specs.Sound.{Sound, says-accepted}
-use Rattle.recovery.specs.Recover.{finished}
+use Rattle.recovery.specs.Requires.{finished}
 use Rattle.recovery.specs.Steps.{survivors-apart}
 use Rattle.recovery.specs.Completes.{Rebuilt, recovery-completes, recovery-rebuilds}
 use Rattle.crash.specs.Reference.{Value, Jobs, jobsAt}

@@ -20,8 +20,8 @@ use Rattle.image.specs.Line.{headerLine, storeLine}
 use Rattle.transient.specs.Store.{Store, store, Outcome, afterCheck}
 use Rattle.survival.specs.Survivors.{survivor}
 use Rattle.acceptance.specs.Accept.{imageCheck}
-use Rattle.recovery.specs.Recover.{nextFreed, lengthsFit, recoverCheck, finished, freeing, recover}
-use Rattle.recovery.specs.Requires.{recoverEntryCheck}
+use Rattle.recovery.specs.Recover.{nextFreed, lengthsFit, recoverCheck, freeing, recover}
+use Rattle.recovery.specs.Requires.{finished}
 use Rattle.recovery.specs.Steps.{SameSurvivors, filledAt, step-keeps, step-accepted, step-lowers, done-survivors}
 use Rattle.recovery.specs.declared.Recovery.{Recovery}
 use Rattle.recovery.specs.declared.Recovery.the-variants.{WentOn, Done, Declined}
@@ -113,7 +113,7 @@ way-bound {l} o = omega (arith, count-top (filledAt l) (slotsOf l))
 -- ---- one call on an accepted image: it does not decline
 not-declined : (w l t : List ℕ) → imageCheck l ≡ Accepted → lengthsFit (length w) l (length t) ≡ true
     → recover (store w l t) ≡ freeing (nextFreed l (slotsOf l)) (store w l t) (slotsOf l)
-unfolding recover recoverCheck recoverEntryCheck imageCheck
+unfolding recover recoverCheck
 not-declined w l t ok fit = rw (fit, ok)
 
 module _ (l : List ℕ) (ok : imageCheck l ≡ Accepted) (any : AnyWords l) where
@@ -127,7 +127,7 @@ module _ (l : List ℕ) (ok : imageCheck l ≡ Accepted) (any : AnyWords l) wher
   lasting-next i = refl
 
   call-cases : (i : ℕ) → OnTheWay l i (lasting any i) → Call i
-  unfolding call lengthsFit
+  unfolding call lengthsFit finished
   call-cases i o = go (found-cases (nextFreed l′ (slotsOf l′)))
     where
       l′ : List ℕ

@@ -13,7 +13,8 @@ use Rattle.image.specs.declared.header.Header.{Header}
 use Rattle.image.specs.Layout.{filledKind, payloadKind, freeHeader}
 use Rattle.survival.specs.Survivors.{kept, beats, wins, survives}
 use Rattle.survival.specs.Requires.{keptAnti}
-use Rattle.acceptance.specs.Accept.{blankHeader, proper, sameVersion, versionBelow}
+use Rattle.acceptance.specs.Accept.{blankHeader, proper, versionBelow}
+use Rattle.acceptance.specs.Requires.{sameVersion}
 
 -- ---- kinds: the filled ones are the payloads and DELETE
 payload-filled : (k : ℕ) → payloadKind k ≡ true → filledKind k ≡ true
@@ -166,7 +167,7 @@ module _ (c : ℕ) {hs hs′ : ℕ → Header} {s₀ : ℕ} (f : Freed hs hs′ 
 
   -- no version stands twice that did not before
   pub freed-versions : (s : ℕ) → versionBelow c hs s ≡ false → versionBelow c hs′ s ≡ false
-  unfolding versionBelow
+  unfolding versionBelow sameVersion
   freed-versions s u =
       refuted (versionBelow c hs′ s)
       (λ y.

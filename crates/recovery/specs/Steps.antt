@@ -23,7 +23,8 @@ use Rattle.image.specs.Requires.{header-fits, sized-after}
 use Rattle.image.specs.Laws.{length-store, front-past-header, header-same, header-other, contents-past-header, key-past-header, value-past-header}
 use Rattle.survival.specs.Survivors.{survivor}
 use Rattle.survival.specs.Requires.{keptAnti}
-use Rattle.acceptance.specs.Accept.{nameless, survivesAs, nameBelow, imageCheck}
+use Rattle.acceptance.specs.Accept.{survivesAs, nameBelow, imageCheck}
+use Rattle.acceptance.specs.Requires.{nameless}
 use Rattle.recovery.specs.Recover.{antiAt, stale, nextFreed}
 use Rattle.acceptance.specs.Sound.{accepted-says, says-accepted}
 use Rattle.recovery.specs.Freed.{Freed, Covered, anti-says, survives-filled, kept-filled, freed-survives, freed-proper, freed-versions, stale-covered, anti-dies, anti-covered}
