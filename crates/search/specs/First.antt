@@ -110,13 +110,6 @@ module _ (p : ℕ → Bool) where
       (cases (p n)))
       (cases (ltb (first p 0 n) n))
 
--- two tests that agree have one first index
-pub first-same : (p q : ℕ → Bool) (k i : ℕ) → ((j : ℕ) → i ≤ j → j < i + k → p j ≡ q j) → first p i k ≡ first q i k
-unfolding first
-first-same p q zero i h = refl
-first-same p q (suc k) i h =
-    rw (h i (omega arith) (omega arith), first-same p q k (i + 1) (λ j l u. h j (omega arith) (omega arith)))
-
 -- THE invariant of a loop that has passed i of n: the answer is still to be found from i on
 pub record Sought (p : ℕ → Bool) (n i : ℕ) : Type 0 where
   pub low : i ≤ n
@@ -176,6 +169,7 @@ found-nothing p n e j h =
     first-before p n 0 j (omega arith) (omega (arith, ltb-false (first p 0 n) n f)))
     (cases (ltb (first p 0 n) n))
 
+-- two tests that agree have one first index
 pub firstOf-same : (p q : ℕ → Bool) (n : ℕ) → ((j : ℕ) → j < n → p j ≡ q j) → firstOf p n ≡ firstOf q n
 unfolding firstOf
 firstOf-same p q zero h = refl
