@@ -5,9 +5,9 @@ use mathlib.Core.List.{List}
 use lib.Dec.{leb, eqb}
 use Rattle.search.specs.Some.{anyOf, every}
 use Rattle.reply.specs.declared.Check.{Check}
-use Rattle.reply.specs.declared.Check.the-variants.{Accepted, Refused}
+use Rattle.reply.specs.declared.Check.the-variants.{Accepted}
 use Rattle.reply.specs.declared.Refusal.the-variants.{BadSizes, BadClock, BadSlot, Duplicate}
-use Rattle.reply.specs.Refusals.{refuse, byCheck}
+use Rattle.reply.specs.Refusals.{refuse}
 use Rattle.image.specs.declared.header.Header.{Header}
 use Rattle.image.specs.Layout.{mostNumber, filledKind, header, slotsOf, widthOf, clockOf, shapeOk, clockOk}
 use Rattle.image.specs.Name.{Name, nameAt, sameName, unnamed}
@@ -24,21 +24,9 @@ filledHeader c h = filledKind (h .kind) && (leb 2 (h .epoch) && (leb (h .epoch) 
 unfoldable pub proper : ℕ → Header → Bool
 proper c h = blankHeader h || filledHeader c h
 
--- "a survivor with key 0"
-unfoldable pub nameless : List ℕ → ℕ → ℕ → ℕ → Bool
-nameless l n w s = survivor l n s && unnamed (nameAt l n w s)
-
--- a kept header g with the uid and epoch of h
-unfoldable pub sameVersion : ℕ → Header → Header → Bool
-sameVersion c h g = kept c g && (eqb (g .uid) (h .uid) && eqb (g .epoch) (h .epoch))
-
--- slot t is of the version of h
-unfoldable pub versionIn : ℕ → Header → List ℕ → ℕ → Bool
-versionIn c h l t = sameVersion c h (header l t)
-
--- "two kept slots equal in uid and label": slot s is kept, and some slot below it is of the same version
+-- "two kept slots equal in uid and label": slot s is kept, and so is some slot below it with its uid and label
 unfoldable pub versionBelow : ℕ → (ℕ → Header) → ℕ → Bool
-versionBelow c hs s = kept c (hs s) && anyOf (λ t. sameVersion c (hs s) (hs t)) s
+versionBelow c hs s = kept c (hs s) && anyOf (λ t. kept c (hs t) && (eqb (hs t .uid) (hs s .uid) && eqb (hs t .epoch) (hs s .epoch))) s
 
 -- a survivor of that name
 unfoldable pub survivesAs : List ℕ → ℕ → ℕ → Name → ℕ → Bool
@@ -48,16 +36,12 @@ survivesAs l n w name t = survivor l n t && sameName (nameAt l n w t) name
 unfoldable pub nameBelow : List ℕ → ℕ → ℕ → ℕ → Bool
 nameBelow l n w s = survivor l n s && anyOf (survivesAs l n w (nameAt l n w s)) s
 
--- 1: "N, W .. outside its range; image length wrong"; 2: "clock outside 2 to 4,000,000,000"
-unfoldable pub headCheck : List ℕ → Check
-headCheck l = refuse (not (shapeOk l)) BadSizes (refuse (not (clockOk (clockOf l))) BadClock Accepted)
-
+-- 1: "N, W .. outside its range; image length wrong"; 2: "clock outside 2 to 4,000,000,000";
 -- 3: "a mark neither three zeros nor properly filled; a survivor with key 0";
 -- 4: "two kept slots equal in uid and label, or two survivors equal in key"
-unfoldable pub slotsCheck : List ℕ → ℕ → ℕ → Check
-slotsCheck l n w =
-    refuse (not (every (λ s. proper (clockOf l) (header l s)) n) || anyOf (nameless l n w) n) BadSlot
-    (refuse (anyOf (versionBelow (clockOf l) (header l)) n || anyOf (nameBelow l n w) n) Duplicate Accepted)
-
 unfoldable pub imageCheck : List ℕ → Check
-imageCheck l = byCheck (headCheck l) Refused (slotsCheck l (slotsOf l) (widthOf l))
+imageCheck l =
+    refuse (not (shapeOk l)) BadSizes
+    (refuse (not (clockOk (clockOf l))) BadClock
+    (refuse (not (every (λ s. proper (clockOf l) (header l s)) (slotsOf l)) || anyOf (λ s. survivor l (slotsOf l) s && unnamed (nameAt l (slotsOf l) (widthOf l) s)) (slotsOf l)) BadSlot
+    (refuse (anyOf (versionBelow (clockOf l) (header l)) (slotsOf l) || anyOf (nameBelow l (slotsOf l) (widthOf l)) (slotsOf l)) Duplicate Accepted)))

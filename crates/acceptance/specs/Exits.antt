@@ -1,6 +1,6 @@
 -- The ways out of this crate's functions: a law for each, and for each call.
 use Prim.Native.Nat.{ℕ, _-_, _≤_, _<_}
-use mathlib.Core.Path.{_≡_, refl, sym, ap, _∙_}
+use mathlib.Core.Path.{_≡_, refl, sym, _∙_}
 use mathlib.Core.Bool.{Bool, true, false, _&&_, and-true, and-false}
 use mathlib.Core.List.{List}
 use lib.ListN.{length, getD}
@@ -17,7 +17,7 @@ use Rattle.reply.specs.declared.Refusal.the-variants.{BadSizes, BadClock, BadSl
 use Rattle.reply.specs.Refusals.{declinedNumber}
 use Rattle.image.specs.declared.header.Header.{Header}
 use Rattle.image.specs.Layout.{mostNumber, filledKind, header, keyAt, slotsOf, widthOf, clockOf, shapeOk, clockOk}
-use Rattle.image.specs.Name.{Name, jobName, keyOf, nameAt, sameName, unnamed, same-name}
+use Rattle.image.specs.Name.{Name, jobName, nameAt, sameName, unnamed, same-name}
 use Rattle.image.specs.Requires.{Sized, Slot, HeaderFits, slot}
 use Rattle.image.specs.Laws.{shaped}
 use Rattle.chains.specs.Chains.{Under}
@@ -27,10 +27,10 @@ use Rattle.chains.specs.Chased.{Chased, chased-under, chased-slot, walks}
 use Rattle.survival.specs.Survivors.{kept, survivor, survivorCount}
 use Rattle.survival.specs.Requires.{SlotMarked, uids, header-in, slot-marked, uids-small, uids-large, marks}
 use Rattle.survival.specs.Laws.{flag-is, uid-at}
-use Rattle.acceptance.specs.Accept.{blankHeader, filledHeader, proper, nameless, sameVersion, versionIn, versionBelow, survivesAs, nameBelow, headCheck, slotsCheck, imageCheck}
-use Rattle.acceptance.specs.Questions.{clockAnswer, survivorsAnswer, survivorsPast}
-use Rattle.acceptance.specs.Requires.{UidChains, UidsAt, VersionOf, KeysUnlinked, KeysAt, KeyOf, uid-chains, uids-at, version-of, keys-small, keys-large, keys-unlinked, key-chains, keys-at, key-of, allProper, someNameless, versionTwice, nameTwice}
-use Rattle.acceptance.specs.Laws.{head-sized, image-sized}
+use Rattle.acceptance.specs.Accept.{blankHeader, filledHeader, proper, versionBelow, survivesAs, nameBelow, imageCheck}
+use Rattle.acceptance.specs.Questions.{clockAnswer, survivorsAnswer}
+use Rattle.acceptance.specs.Requires.{headCheck, nameless, slotsCheck, survivorsPast, sameVersion, versionIn, UidChains, UidsAt, VersionOf, KeysUnlinked, KeysAt, KeyOf, uid-chains, uids-at, version-of, keys-small, keys-large, keys-unlinked, key-chains, keys-at, key-of, allProper, someNameless, versionTwice, nameTwice}
+use Rattle.acceptance.specs.Laws.{image-is, head-sized, image-sized}
 
 -- ---- headers that are proper
 module _ (h : Header) where
@@ -136,7 +136,7 @@ version-in c h l t e = e
 
 module _ (c : ℕ) (l : List ℕ) (s : ℕ) {h : Header} {k : Bool} (at : h ≡ header l s) (kp : k ≡ kept c h) where
   pub below-yes : {r : Bool} → k ≡ true → r ≡ anyOf (versionIn c h l) s → r ≡ versionBelow c (header l) s
-  unfolding versionBelow versionIn
+  unfolding versionBelow versionIn sameVersion
   below-yes e p = rw (← at, ← kp, e) p
 
   pub below-no : k ≡ false → false ≡ versionBelow c (header l) s
@@ -191,12 +191,10 @@ module _ (l : List ℕ) (n w : ℕ) {p : Bool} (pr : p ≡ allProper l n) where
 
 module _ (l : List ℕ) {k : Check} (c : k ≡ headCheck l) where
   pub check-declines : {r : Refusal} → k ≡ Refused r → Refused r ≡ imageCheck l
-  unfolding imageCheck
-  check-declines a = rw (← c, a)
+  check-declines a = rw (image-is l, ← c, a)
 
   pub check-goes : (n w : ℕ) {r : Check} → k ≡ Accepted → n ≡ slotsOf l → w ≡ widthOf l → r ≡ slotsCheck l n w → r ≡ imageCheck l
-  unfolding imageCheck
-  check-goes n w a p q h = rw (← c, a, ← p, ← q) h
+  check-goes n w a p q h = rw (image-is l, ← c, a, ← p, ← q) h
 
   pub check-long : (j : ℕ) → k ≡ Accepted → j < 3 → j < length l
   check-long j a h = let z = head-sized l (sym c ∙ a) in omega arith
@@ -219,12 +217,12 @@ module _ (l : List ℕ) {k : Check} (c : k ≡ imageCheck l) where
 
 module _ (l : List ℕ) {k : Check} (c : k ≡ headCheck l) where
   pub survivors-declines : {r : Refusal} {v : ℕ} → k ≡ Refused r → v ≡ declinedNumber r → v ≡ survivorsAnswer l
-  unfolding survivorsAnswer imageCheck
-  survivors-declines a e = rw (← c, a) e
+  unfolding survivorsAnswer
+  survivors-declines a e = rw (image-is l, ← c, a) e
 
   pub survivors-goes : (n w : ℕ) {v : ℕ} → k ≡ Accepted → n ≡ slotsOf l → w ≡ widthOf l → v ≡ survivorsPast l n w → v ≡ survivorsAnswer l
-  unfolding survivorsAnswer imageCheck survivorsPast
-  survivors-goes n w a p q e = rw (← c, a, ← p, ← q) e
+  unfolding survivorsAnswer survivorsPast
+  survivors-goes n w a p q e = rw (image-is l, ← c, a, ← p, ← q) e
 
 module _ (l : List ℕ) (n w : ℕ) {k : Check} (c : k ≡ slotsCheck l n w) where
   pub past-declines : {r : Refusal} {v : ℕ} → k ≡ Refused r → v ≡ declinedNumber r → v ≡ survivorsPast l n w
@@ -276,9 +274,9 @@ module _ {l : List ℕ} {n w i : ℕ} {heads₀ below₀ heads below : List ℕ}
 
 -- ---- the walk for a survivor of one name
 -- it has the key of the name
-as-key : (l : List ℕ) (n w : ℕ) (name : Name) (t : ℕ) → survivesAs l n w name t ≡ true → keyAt l n w t ≡ keyOf name
+as-key : (l : List ℕ) (n w : ℕ) (name : Name) (t : ℕ) → survivesAs l n w name t ≡ true → keyAt l n w t ≡ name
 unfolding survivesAs nameAt
-as-key l n w name t e = ap keyOf (same-name (nameAt l n w t) name (and-right (survivor l n t) (sameName (nameAt l n w t) name) e))
+as-key l n w name t e = same-name (nameAt l n w t) name (and-right (survivor l n t) (sameName (nameAt l n w t) name) e)
 
 pub named-marked : {l : List ℕ} {n w s : ℕ} {flags : List Bool} {below : List ℕ} → KeysAt l n w s flags below → SlotMarked l n w s flags
 named-marked z = slot-marked (z .chains .marked) (z .within)

@@ -1,31 +1,45 @@
 -- What a check that accepts says of the sizes, and what words the bytes of an image make.
 use Prim.Native.Nat.{ℕ, _/_, _≤_, _<_}
 use mathlib.Core.Path.{_≡_, sym, _∙_}
-use mathlib.Core.Bool.{not}
+use mathlib.Core.Bool.{true, false, not}
+use mathlib.Core.Logic.{⊎-elim}
 use mathlib.Core.List.{List}
 use lib.ListN.{length, take}
 use lib.Seq.{length-take-le}
 use borrow.Author.Tests.{not-false}
 use native.Mathlib.Omega.{arith}
+use Rattle.search.specs.Bools.{cases}
 use Rattle.reply.specs.declared.Check.{Check}
-use Rattle.reply.specs.declared.Check.the-variants.{Accepted}
+use Rattle.reply.specs.declared.Check.the-variants.{Accepted, Refused}
 use Rattle.reply.specs.declared.Refusal.the-variants.{BadSizes, BadClock}
-use Rattle.reply.specs.Refusals.{refuse, not-refused, both-accepted}
+use Rattle.reply.specs.Refusals.{refuse, byCheck, not-refused, both-accepted}
 use Rattle.image.specs.Layout.{slotsOf, widthOf, clockOf, shapeOk, clockOk}
 use Rattle.image.specs.Line.{stored}
 use Rattle.image.specs.Requires.{Sized}
 use Rattle.image.specs.Laws.{shaped, stored-front, length-stored}
 use Rattle.image.specs.Bytes.{wordsOf, words-length}
-use Rattle.acceptance.specs.Accept.{headCheck, slotsCheck, imageCheck}
-use Rattle.acceptance.specs.Requires.{Buffered, buffered, decodes}
+use Rattle.acceptance.specs.Accept.{imageCheck}
+use Rattle.acceptance.specs.Requires.{headCheck, nameless, slotsCheck, Buffered, buffered, decodes}
+
+-- the check of an image, by its parts
+pub image-is : (l : List ℕ) → imageCheck l ≡ byCheck (headCheck l) Refused (slotsCheck l (slotsOf l) (widthOf l))
+unfolding imageCheck headCheck slotsCheck nameless
+image-is l =
+    ⊎-elim
+    (λ (s : shapeOk l ≡ true).
+    ⊎-elim
+    (λ (t : clockOk (clockOf l) ≡ true). rw (s, t))
+    (λ (f : clockOk (clockOf l) ≡ false). rw (s, f))
+    (cases (clockOk (clockOf l))))
+    (λ (f : shapeOk l ≡ false). rw f)
+    (cases (shapeOk l))
 
 pub head-sized : (l : List ℕ) → headCheck l ≡ Accepted → Sized l (slotsOf l) (widthOf l)
 unfolding headCheck
 head-sized l a = shaped l (not-false (shapeOk l) (not-refused (not (shapeOk l)) BadSizes (refuse (not (clockOk (clockOf l))) BadClock Accepted) a .0))
 
 pub image-sized : (l : List ℕ) → imageCheck l ≡ Accepted → Sized l (slotsOf l) (widthOf l)
-unfolding imageCheck
-image-sized l a = head-sized l (both-accepted (headCheck l) (slotsCheck l (slotsOf l) (widthOf l)) a .0)
+image-sized l a = head-sized l (both-accepted (headCheck l) (slotsCheck l (slotsOf l) (widthOf l)) (sym (image-is l) ∙ a) .0)
 
 pub image-long : (l : List ℕ) {k : Check} (j : ℕ) → k ≡ imageCheck l → k ≡ Accepted → j < 3 → j < length l
 image-long l j c a h = let z = image-sized l (sym c ∙ a) in omega arith

@@ -9,17 +9,13 @@ use Rattle.reply.specs.Refusals.{refuse, byCheck, declinedNumber}
 use Rattle.image.specs.Layout.{slotsOf, clockOf}
 use Rattle.image.specs.Bytes.{wordsOf}
 use Rattle.survival.specs.Survivors.{survivorCount}
-use Rattle.acceptance.specs.Accept.{slotsCheck, imageCheck}
+use Rattle.acceptance.specs.Accept.{imageCheck}
 
 unfoldable pub clockAnswer : List ℕ → ℕ
 clockAnswer l = byCheck (imageCheck l) declinedNumber (clockOf l)
 
 unfoldable pub survivorsAnswer : List ℕ → ℕ
 survivorsAnswer l = byCheck (imageCheck l) declinedNumber (survivorCount l (slotsOf l))
-
--- the same past refusals 1 and 2
-unfoldable pub survivorsPast : List ℕ → ℕ → ℕ → ℕ
-survivorsPast l n w = byCheck (slotsCheck l n w) declinedNumber (survivorCount l n)
 
 -- "A byte count that fits no image is refused with 1": no whole words, or more than the largest image has
 unfoldable pub bytesOk : ℕ → Bool

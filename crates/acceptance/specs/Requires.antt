@@ -1,7 +1,7 @@
--- What contracts inside are about: the answers of the walks; the slots chained by their uids and by their keys, and a buffer for an image's bytes.
+-- What contracts inside are about: the parts of the check, the answers of the walks; the slots chained by their uids and by their keys, and a buffer for an image's bytes.
 use Prim.Native.Nat.{ℕ, _*_, _/_, _%_, _≤_, _<_}
 use mathlib.Core.Path.{_≡_, sym, _∙_}
-use mathlib.Core.Bool.{Bool, true}
+use mathlib.Core.Bool.{Bool, true, not, _&&_, _||_}
 use mathlib.Core.List.{List}
 use lib.ListN.{length, replicate}
 use lib.Dec.{leb, eqb}
@@ -10,15 +10,44 @@ use native.Mathlib.Omega.{arith}
 use native.Mathlib.Nat.{div-add-mod'}
 use Rattle.search.specs.Bools.{and-left, and-right}
 use Rattle.search.specs.Some.{anyOf, every}
+use Rattle.reply.specs.declared.Check.{Check}
+use Rattle.reply.specs.declared.Check.the-variants.{Accepted}
+use Rattle.reply.specs.declared.Refusal.the-variants.{BadSizes, BadClock, BadSlot, Duplicate}
+use Rattle.reply.specs.Refusals.{refuse, byCheck, declinedNumber}
 use Rattle.image.specs.declared.header.Header.{Header}
-use Rattle.image.specs.Layout.{header, keyAt, clockOf}
+use Rattle.image.specs.Layout.{header, keyAt, clockOf, shapeOk, clockOk}
+use Rattle.image.specs.Name.{nameAt, unnamed}
 use Rattle.image.specs.Requires.{Sized}
 use Rattle.image.specs.Bytes.{Decodes}
 use Rattle.chains.specs.Chains.{Linked, Under}
 use Rattle.chains.specs.Requires.{Room, room-small, room-large}
+use Rattle.survival.specs.Survivors.{kept, survivor, survivorCount}
 use Rattle.survival.specs.Requires.{Headers, AllMarked, uids, UidsLinked}
-use Rattle.acceptance.specs.Accept.{proper, nameless, versionBelow, nameBelow}
+use Rattle.acceptance.specs.Accept.{proper, versionBelow, nameBelow}
 use Rattle.acceptance.specs.Questions.{bytesOk}
+
+-- ---- the parts of `imageCheck`, in its words: refusals 1 and 2, 3 and 4, a survivor without a name
+unfoldable pub headCheck : List ℕ → Check
+headCheck l = refuse (not (shapeOk l)) BadSizes (refuse (not (clockOk (clockOf l))) BadClock Accepted)
+
+unfoldable pub nameless : List ℕ → ℕ → ℕ → ℕ → Bool
+nameless l n w s = survivor l n s && unnamed (nameAt l n w s)
+
+unfoldable pub slotsCheck : List ℕ → ℕ → ℕ → Check
+slotsCheck l n w =
+    refuse (not (every (λ s. proper (clockOf l) (header l s)) n) || anyOf (nameless l n w) n) BadSlot
+    (refuse (anyOf (versionBelow (clockOf l) (header l)) n || anyOf (nameBelow l n w) n) Duplicate Accepted)
+
+-- the number of survivors, past refusals 1 and 2
+unfoldable pub survivorsPast : List ℕ → ℕ → ℕ → ℕ
+survivorsPast l n w = byCheck (slotsCheck l n w) declinedNumber (survivorCount l n)
+
+-- a kept header g with the uid and epoch of h; slot t is of the version of h
+unfoldable pub sameVersion : ℕ → Header → Header → Bool
+sameVersion c h g = kept c g && (eqb (g .uid) (h .uid) && eqb (g .epoch) (h .epoch))
+
+unfoldable pub versionIn : ℕ → Header → List ℕ → ℕ → Bool
+versionIn c h l t = sameVersion c h (header l t)
 
 -- ---- what the walks of `slotsCheck` answer
 unfoldable pub allProper : List ℕ → ℕ → Bool

@@ -1,6 +1,6 @@
 -- What an accepted image is sure of, slot by slot.
 use Prim.Native.Nat.{ℕ, _≤_, _<_}
-use mathlib.Core.Path.{_≡_}
+use mathlib.Core.Path.{_≡_, sym, _∙_}
 use mathlib.Core.Bool.{true, false, not, _&&_, _||_}
 use mathlib.Core.Logic.{_⊎_, inl, inr, ⊎-elim}
 use mathlib.Core.List.{List}
@@ -15,9 +15,9 @@ use Rattle.reply.specs.Refusals.{refuse, not-refused, both-accepted}
 use Rattle.image.specs.declared.header.Header.{Header}
 use Rattle.image.specs.Layout.{mostSlots, mostNumber, filledKind, header, slotsOf, widthOf, clockOf, sizesOk, shapeOk, clockOk}
 use Rattle.image.specs.Requires.{Sized}
-use Rattle.acceptance.specs.Accept.{blankHeader, filledHeader, proper, nameless, versionBelow, nameBelow, headCheck, slotsCheck, imageCheck}
-use Rattle.acceptance.specs.Requires.{allProper, someNameless, versionTwice, nameTwice}
-use Rattle.acceptance.specs.Laws.{image-sized}
+use Rattle.acceptance.specs.Accept.{blankHeader, filledHeader, proper, versionBelow, nameBelow, imageCheck}
+use Rattle.acceptance.specs.Requires.{headCheck, nameless, slotsCheck}
+use Rattle.acceptance.specs.Laws.{image-is, image-sized}
 
 pub record Sound (l : List ℕ) (n w : ℕ) : Type 0 where
   pub all-proper : (s : ℕ) → s < n → proper (clockOf l) (header l s) ≡ true
@@ -26,7 +26,7 @@ pub record Sound (l : List ℕ) (n w : ℕ) : Type 0 where
   pub names : (s : ℕ) → s < n → nameBelow l n w s ≡ false
 
 pub sound : (l : List ℕ) (n w : ℕ) → slotsCheck l n w ≡ Accepted → Sound l n w
-unfolding slotsCheck allProper someNameless versionTwice nameTwice
+unfolding slotsCheck
 sound l n w e =
     let p = every (λ s. proper (clockOf l) (header l s)) n in
     let k = anyOf (nameless l n w) n in
@@ -106,9 +106,9 @@ pub record Accepts (l : List ℕ) : Type 0 where
 
 -- from the check to the facts ..
 pub accepted-says : (l : List ℕ) → imageCheck l ≡ Accepted → Accepts l
-unfolding imageCheck headCheck clockOk
+unfolding headCheck clockOk
 accepted-says l e =
-    let both = both-accepted (headCheck l) (slotsCheck l (slotsOf l) (widthOf l)) e in
+    let both = both-accepted (headCheck l) (slotsCheck l (slotsOf l) (widthOf l)) (sym (image-is l) ∙ e) in
     let shape = not-refused (not (shapeOk l)) BadSizes (refuse (not (clockOk (clockOf l))) BadClock Accepted) (both .0) in
     let clock = not-false (clockOk (clockOf l)) (not-refused (not (clockOk (clockOf l))) BadClock Accepted (shape .1) .0) in
     record {
@@ -129,7 +129,7 @@ says-shape l z =
 
 -- .. and back
 pub says-accepted : (l : List ℕ) → Accepts l → imageCheck l ≡ Accepted
-unfolding imageCheck headCheck clockOk slotsCheck allProper someNameless versionTwice nameTwice
+unfolding imageCheck clockOk nameless
 says-accepted l a =
     let n = slotsOf l in
     let w = widthOf l in

@@ -10,8 +10,8 @@ ghost use mathlib.Core.Path.{_≡_};
 ghost use Rattle.image.specs.Layout.{header};
 ghost use Rattle.image.specs.Requires.{HeaderFits, Sized};
 ghost use Rattle.survival.specs.Requires.{Headers, SlotMarked, AllMarked};
-ghost use Rattle.acceptance.specs.Accept.{blankHeader, filledHeader, proper, nameless, headCheck, slotsCheck, imageCheck};
-ghost use Rattle.acceptance.specs.Requires.{allProper, someNameless};
+ghost use Rattle.acceptance.specs.Accept.{blankHeader, filledHeader, proper, imageCheck};
+ghost use Rattle.acceptance.specs.Requires.{headCheck, nameless, slotsCheck, allProper, someNameless};
 
 pub fn blank_header(h: Header) -> bool
     ensures { λ r. ⌜ r ≡ blankHeader h ⌝ }

@@ -2,7 +2,8 @@
 use reply::Check;
 ghost use mathlib.Core.Path.{_≡_};
 ghost use Rattle.image.specs.Requires.{Sized};
-ghost use Rattle.acceptance.specs.Questions.{clockAnswer, survivorsAnswer, survivorsPast, bytesOk};
+ghost use Rattle.acceptance.specs.Questions.{clockAnswer, survivorsAnswer, bytesOk};
+ghost use Rattle.acceptance.specs.Requires.{survivorsPast};
 
 // Is this the byte count of whole words, no more than the largest image has?
 pub fn bytes_ok(len: usize) -> bool

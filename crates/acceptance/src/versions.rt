@@ -5,8 +5,8 @@ ghost use Rattle.search.specs.Some.{anyOf};
 ghost use Rattle.image.specs.Layout.{header};
 ghost use Rattle.image.specs.Requires.{HeaderFits};
 ghost use Rattle.survival.specs.Requires.{Headers, UidsUnlinked};
-ghost use Rattle.acceptance.specs.Accept.{sameVersion, versionIn, versionBelow};
-ghost use Rattle.acceptance.specs.Requires.{UidChains, UidsAt, VersionOf, versionTwice};
+ghost use Rattle.acceptance.specs.Accept.{versionBelow};
+ghost use Rattle.acceptance.specs.Requires.{sameVersion, versionIn, UidChains, UidsAt, VersionOf, versionTwice};
 
 fn same_version_at(img: &[u32], n: usize, c: u32, h: Header, t: usize) -> bool
     requires { ⌜ HeaderFits (now img) n t ⌝ }

@@ -24,8 +24,8 @@ use Rattle.transient.specs.declared.sizes.Sizes.{Sizes}
 use Rattle.transient.specs.Layout.{note, slotsAt, lastAt, nextUidAt, placeAt, openEpoch, threadsOk}
 use Rattle.transient.specs.Laws.{FrontKept, front-same, retired-front, emptied-front, place-long, place-noted, place-last, place-uid, place-opens, slot-set}
 use Rattle.transient.specs.Store.{Store, store, tableOf, sizesOf, Outcome, afterCheck}
-use Rattle.transient.specs.Entry.{imagesFit, notesFit, sizesFit, openOk, opensOk, clocksFit, entryCheck}
-use Rattle.transient.specs.Requires.{EnteredWith, notes-after}
+use Rattle.transient.specs.Entry.{imagesFit, notesFit, opensOk, entryCheck}
+use Rattle.transient.specs.Requires.{sizesFit, openOk, clocksFit, EnteredWith, notes-after}
 use Rattle.transient.specs.Passed.{entry-with}
 use Rattle.epochs.specs.declared.Place.{Place}
 use Rattle.epochs.specs.declared.Advance.the-variants.{WentOn, Ticked, Declined}
@@ -142,7 +142,7 @@ record Passes (st : Store) : Type 0 where
   clocks : clocksFit (st .working) (st .persistent) (st .transient) (sizesOf (tableOf st) .t) ≡ true
 
 entry-passes : (st : Store) → entryCheck st ≡ Accepted → Passes st
-unfolding entryCheck
+unfolding entryCheck sizesFit clocksFit
 entry-passes st a =
     let fit = sizesFit (st .working) (st .persistent) (st .transient) in
     let clocks = clocksFit (st .working) (st .persistent) (st .transient) (sizesOf (tableOf st) .t) in
@@ -150,7 +150,7 @@ entry-passes st a =
     record { sizes = not-false fit (first .0); clocks = not-false clocks (not-refused (not clocks) BadClock Accepted (first .1) .0) }
 
 passes-entry : {st : Store} → Passes st → entryCheck st ≡ Accepted
-unfolding entryCheck
+unfolding entryCheck sizesFit clocksFit
 passes-entry y = rw (y .sizes, y .clocks)
 
 images-same : {wk l wk′ l′ : List ℕ} → Alike wk wk′ → Alike l l′ → imagesFit wk′ l′ ≡ imagesFit wk l
@@ -326,7 +326,7 @@ sync-keeps st r d = go (syncCheck st) refl
 
 -- ---- lines that the memory writes back in the middle of a sync do not disturb it: working and notes stay
 back-entry : (wk l l′ tr : List ℕ) → Alike l l′ → clockOf l′ ≡ clockOf l → entryCheck (store wk l′ tr) ≡ entryCheck (store wk l tr)
-unfolding entryCheck sizesFit clocksFit
+unfolding entryCheck
 back-entry wk l l′ tr a c = rw (images-same (unchanged wk) a, c)
 
 pub quiet-back : (ticks : ℕ) (st : Store) (slot code : ℕ) → Quiet ticks st → Quiet ticks (writeBack st slot code .store)

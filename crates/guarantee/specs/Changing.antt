@@ -16,8 +16,8 @@ use Rattle.transient.specs.declared.sizes.Sizes.{Sizes}
 use Rattle.transient.specs.Layout.{threadsOf, note, lastAt, openEpoch}
 use Rattle.transient.specs.Store.{Store, Table, store, table, tableOf, sizesOf, Outcome, afterCheck}
 use Rattle.transient.specs.Entry.{entryCheck}
-use Rattle.transient.specs.Calls.{Changed, refused, inStore, onStore}
-use Rattle.transient.specs.Passed.{entry-with}
+use Rattle.transient.specs.Calls.{Changed, refused, onStore}
+use Rattle.transient.specs.Passed.{inStore, entry-with}
 use Rattle.jobs.specs.declared.way.Way.{Way}
 use Rattle.jobs.specs.declared.way.Way.the-variants.{Open, Declined}
 use Rattle.jobs.specs.Way.{wayIn, byWay}

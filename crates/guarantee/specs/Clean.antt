@@ -1,7 +1,7 @@
 -- An accepted image of survivors only, in both places, with notes that say nothing: such a store has the invariant, with an empty
 -- row and the image's own jobs.
 use Prim.Native.Nat.{ℕ, _+_, _-_, _≤_, _<_}
-use mathlib.Core.Path.{_≡_, refl, sym, ap, _∙_}
+use mathlib.Core.Path.{_≡_, refl, sym, _∙_}
 use mathlib.Core.Bool.{true}
 use mathlib.Core.Logic.{_≢_, inl, _↔_, Iff·trans}
 use mathlib.Core.List.{List, [], List·Memᴰ·not-nil}
@@ -14,7 +14,7 @@ use Rattle.search.specs.Bools.{never, and-left, and-right, and-both}
 use Rattle.search.specs.Some.{some-at}
 use Rattle.reply.specs.declared.Check.the-variants.{Accepted}
 use Rattle.image.specs.Layout.{filledKind, payloadKind, header, contents, valueAt, slotsOf, widthOf, clockOf, freeHeader}
-use Rattle.image.specs.Name.{Name, keyOf, nameAt}
+use Rattle.image.specs.Name.{Name, nameAt}
 use Rattle.image.specs.Laws.{name-contents, value-contents}
 use Rattle.transient.specs.declared.sizes.Sizes.{Sizes}
 use Rattle.transient.specs.Layout.{threadsOf, threadsOk, note, nextUidAt, phaseAt, placeAt, openEpoch, retiredIn, blank}
@@ -22,7 +22,8 @@ use Rattle.transient.specs.Store.{Store, store, tableOf, sizesOf}
 use Rattle.transient.specs.Requires.{Notes}
 use Rattle.transient.specs.Laws.{threads-head, blank-length, blank-uid, blank-phase, blank-open, blank-retired}
 use Rattle.survival.specs.Survivors.{kept, wins, survives, survivor}
-use Rattle.acceptance.specs.Accept.{blankHeader, proper, sameVersion, versionBelow, imageCheck}
+use Rattle.acceptance.specs.Accept.{blankHeader, proper, versionBelow, imageCheck}
+use Rattle.acceptance.specs.Requires.{sameVersion}
 use Rattle.acceptance.specs.Sound.{Accepts, accepted-says}
 use Rattle.recovery.specs.Steps.{survivor-named, survivors-apart}
 use Rattle.crash.specs.Slots.{Value, Slot, Filled, Proper, Shows}
@@ -174,7 +175,7 @@ module _ {l tr : List ℕ} (z : Clean l tr) where
         old = o .old;
         uid-below = o .uid-below;
         named = λ f q.
-            survivor-named l (z .accepted) s h (filled-lives s (rw (is-at s h) f) .survives) (ap keyOf (name-contents l n w s some-width) ∙ q);
+            survivor-named l (z .accepted) s h (filled-lives s (rw (is-at s h) f) .survives) (name-contents l n w s some-width ∙ q);
         not-retired = z .not-retired sz s;
       }
 

@@ -11,14 +11,15 @@ use Rattle.search.specs.Bools.{refuted, and-left, and-right}
 use Rattle.search.specs.Some.{some-one}
 use Rattle.reply.specs.declared.Check.the-variants.{Accepted}
 use Rattle.image.specs.Layout.{header, contents, valueAt, clockOf}
-use Rattle.image.specs.Name.{Name, keyOf, nameAt, same-name, unnamed-true}
+use Rattle.image.specs.Name.{Name, nameAt, same-name, unnamed-true}
 use Rattle.image.specs.Laws.{name-contents, value-contents}
 use Rattle.transient.specs.declared.sizes.Sizes.{Sizes}
 use Rattle.transient.specs.Store.{Store}
 use Rattle.survival.specs.Survivors.{kept, survivor}
-use Rattle.acceptance.specs.Accept.{nameless, sameVersion, versionBelow, survivesAs, nameBelow, imageCheck}
+use Rattle.acceptance.specs.Accept.{versionBelow, survivesAs, nameBelow, imageCheck}
+use Rattle.acceptance.specs.Requires.{nameless, sameVersion}
 use Rattle.acceptance.specs.Sound.{Sound, says-accepted}
-use Rattle.recovery.specs.Recover.{finished}
+use Rattle.recovery.specs.Requires.{finished}
 use Rattle.recovery.specs.Steps.{survivors-apart}
 use Rattle.recovery.specs.Completes.{Rebuilt, recovery-completes, recovery-rebuilds}
 use Rattle.crash.specs.Reference.{Jobs, jobsAt}
@@ -84,7 +85,7 @@ module _ {sz : Sizes} {start : Jobs} {st : Store} {p : Plain} (g : Good sz start
   unfolding nameless
   cut-nameless s h = refuted (nameless image (sz .n) (sz .w) s) (λ y.
       let x = survivor image (sz .n) s in
-      cut-named (g .inv) cut-clock s (survives-here s h (and-left x _ y)) (ap keyOf (name-at s h) ∙ unnamed-true (nameAt image (sz .n) (sz .w) s) (and-right x _ y)))
+      cut-named (g .inv) cut-clock s (survives-here s h (and-left x _ y)) (name-at s h ∙ unnamed-true (nameAt image (sz .n) (sz .w) s) (and-right x _ y)))
 
   -- no version is kept twice
   cut-version : (s : ℕ) → s < sz .n → versionBelow (clockOf image) (header image) s ≡ false

@@ -18,7 +18,8 @@ use Rattle.transient.specs.Layout.{threadsOk}
 use Rattle.transient.specs.Store.{Store}
 use Rattle.transient.specs.Laws.{zeros-at}
 use Rattle.survival.specs.Survivors.{kept, survivor}
-use Rattle.acceptance.specs.Accept.{nameless, versionBelow, nameBelow, imageCheck}
+use Rattle.acceptance.specs.Accept.{versionBelow, nameBelow, imageCheck}
+use Rattle.acceptance.specs.Requires.{nameless}
 use Rattle.acceptance.specs.Sound.{says-accepted}
 use Rattle.format.specs.Format.{freshImage, format}
 use Rattle.format.specs.Requires.{formatFits, freshStore}

@@ -14,15 +14,15 @@ use Rattle.search.specs.declared.Found.the-variants.{At, Nothing}
 use Rattle.reply.specs.declared.Check.{Check}
 use Rattle.reply.specs.declared.Check.the-variants.{Accepted, Refused}
 use Rattle.reply.specs.declared.Refusal.the-variants.{BadSizes}
-use Rattle.reply.specs.Refusals.{not-refused, both-accepted}
-use Rattle.image.specs.Layout.{slotsOf, widthOf}
+use Rattle.reply.specs.Refusals.{not-refused}
+use Rattle.image.specs.Layout.{slotsOf}
 use Rattle.transient.specs.Layout.{threadsOk}
 use Rattle.transient.specs.Store.{Store, afterCheck}
 use Rattle.survival.specs.Survivors.{survivor}
-use Rattle.acceptance.specs.Accept.{headCheck, slotsCheck, imageCheck}
+use Rattle.acceptance.specs.Accept.{imageCheck}
 use Rattle.recovery.specs.declared.Recovery.the-variants.{Done, Declined}
-use Rattle.recovery.specs.Recover.{nextFreed, nextUid, lengthsFit, recoverCheck, finished, freeing, recover}
-use Rattle.recovery.specs.Requires.{uidOf, recoverEntryCheck}
+use Rattle.recovery.specs.Recover.{nextFreed, nextUid, lengthsFit, recoverCheck, freeing, recover}
+use Rattle.recovery.specs.Requires.{uidOf, finished}
 use Rattle.recovery.specs.Steps.{filledAt, done-survivors}
 use Rattle.guarantee.specs.Promise.{Started, fresh, recovered}
 use Rattle.guarantee.specs.Clean.{Begins, blank-clean, clean-good}
@@ -51,16 +51,15 @@ done-only Accepted (At s) st n e = let z : _≡_ {A = ℕ} 0 1 = cc in absurd (o
 done-only Accepted Nothing st n e = (refl, refl)
 
 finishes : (st : Store) → recover st .reply ≡ Done → Finishes st
-unfolding recover recoverCheck recoverEntryCheck lengthsFit imageCheck
+unfolding recover recoverCheck lengthsFit finished
 finishes st e =
     let l = st .persistent in
     let n = slotsOf l in
     let fit = lengthsFit (length (st .working)) l (length (st .transient)) in
     let d = done-only (recoverCheck st) (nextFreed l n) st n e in
-    let both = both-accepted (recoverEntryCheck (length (st .working)) l (length (st .transient))) (slotsCheck l n (widthOf l)) (d .0) in
-    let entry = not-refused (not fit) BadSizes (headCheck l) (both .0) in
+    let entry = not-refused (not fit) BadSizes (imageCheck l) (d .0) in
     record {
-      accepted = rw (entry .1) (both .1);
+      accepted = entry .1;
       none = d .1;
       threads = and-right (eqb (length (st .working)) (length l)) _ (not-false fit (entry .0));
       leaves = rw (d .0, d .1);

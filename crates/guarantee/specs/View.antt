@@ -12,7 +12,6 @@ use native.Mathlib.Decide.{decLt}
 use Rattle.search.specs.Bools.{flag}
 use Rattle.image.specs.declared.header.Header.{Header}
 use Rattle.image.specs.Layout.{header, contents}
-use Rattle.image.specs.Name.{nameOf}
 use Rattle.transient.specs.declared.sizes.Sizes.{Sizes}
 use Rattle.transient.specs.Store.{Store}
 use Rattle.transient.specs.Layout.{retiredIn, isWaiting}
@@ -22,7 +21,7 @@ use Rattle.crash.specs.Slots.{Entry, Slot, Place}
 use Rattle.crash.specs.Steps.{entry}
 
 abbrev pub entryOf : Header → List ℕ → Entry
-entryOf h words = entry (h .kind) (h .epoch) (h .uid) (nameOf h (getD words 0 0)) (drop 1 words)
+entryOf h words = entry (h .kind) (h .epoch) (h .uid) (getD words 0 0) (drop 1 words)
 
 -- `before` is the list of c − 1, which is kept where that of c + 1 will be
 abbrev pub slotOf : Store → Sizes → ℕ → ℕ → Slot

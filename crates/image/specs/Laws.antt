@@ -15,7 +15,7 @@ use Rattle.search.specs.Bools.{and-left, and-right}
 use Rattle.image.specs.declared.header.Header.{Header}
 use Rattle.image.specs.Layout.{mostSlots, headerWords, headerAt, contentsAt, imageWords, header, contents, keyAt, valueAt, slotsOf, widthOf, clockOf, sizesOk, shapeOk}
 use Rattle.image.specs.Line.{Line, headerLine, contentsLine, clockLine, stored, storeLine}
-use Rattle.image.specs.Name.{nameOf, nameAt}
+use Rattle.image.specs.Name.{nameAt}
 use Rattle.image.specs.Requires.{kindAt, epochAt, uidAt, InRange, Sized, Slot, HeaderFits, room-of}
 
 -- ---- an image of the right shape has its sizes
@@ -239,7 +239,7 @@ value-contents l n w s h =
     ap (λ k. drop 1 (take k (drop (contentsAt n w s) l))) e ∙ drop-take (w - 1) (drop (contentsAt n w s) l) in
     sym (d ∙ ap (take (w - 1)) (drop-drop 1 (contentsAt n w s) l))
 
--- the name of a slot, by its header and its contents
-pub name-contents : (l : List ℕ) (n w s : ℕ) → 1 ≤ w → nameAt l n w s ≡ nameOf (header l s) (getD (contents l n w s) 0 0)
+-- the name of a slot, by its contents
+pub name-contents : (l : List ℕ) (n w s : ℕ) → 1 ≤ w → nameAt l n w s ≡ getD (contents l n w s) 0 0
 unfolding nameAt
-name-contents l n w s h = ap (nameOf (header l s)) (key-contents l n w s h)
+name-contents l n w s h = key-contents l n w s h

@@ -7,8 +7,7 @@ use mathlib.Core.List.{List}
 use lib.Dec.{eqb}
 use native.Mathlib.Decide.{ℕ-discrete}
 use borrow.Author.Tests.{eqb-true, eqb-false, eq-eqb, ne-eqb}
-use Rattle.image.specs.declared.header.Header.{Header}
-use Rattle.image.specs.Layout.{header, keyAt}
+use Rattle.image.specs.Layout.{keyAt}
 
 -- 01: "The board is a map from job number (key)": a job's name is its key
 abbrev pub Name : Type 0
@@ -17,25 +16,19 @@ Name = ℕ
 abbrev pub jobName : ℕ → Name
 jobName key = key
 
-abbrev pub keyOf : Name → ℕ
-keyOf name = name
-
--- the name of what a slot holds, by its header and its key
-abbrev pub nameOf : Header → ℕ → Name
-nameOf h key = key
-
+-- the name of what a slot holds
 unfoldable pub nameAt : List ℕ → ℕ → ℕ → ℕ → Name
-nameAt l n w s = nameOf (header l s) (keyAt l n w s)
+nameAt l n w s = keyAt l n w s
 
 unfoldable pub sameName : Name → Name → Bool
 sameName a b = eqb a b
 
 -- "Keys .. are never 0"
 unfoldable pub unnamed : Name → Bool
-unnamed name = eqb (keyOf name) 0
+unnamed name = eqb name 0
 
 abbrev pub Named : Name → Type 0
-Named name = keyOf name ≢ 0
+Named name = name ≢ 0
 
 -- ---- the tests say what they ask
 pub same-name : (a b : Name) → sameName a b ≡ true → a ≡ b
@@ -50,18 +43,18 @@ pub name-other : (a b : Name) → a ≢ b → sameName a b ≡ false
 unfolding sameName
 name-other a b e = ne-eqb a b e
 
-pub unnamed-true : (a : Name) → unnamed a ≡ true → keyOf a ≡ 0
+pub unnamed-true : (a : Name) → unnamed a ≡ true → a ≡ 0
 unfolding unnamed
-unnamed-true a e = eqb-true (keyOf a) 0 e
+unnamed-true a e = eqb-true a 0 e
 
 pub unnamed-false : (a : Name) → unnamed a ≡ false → Named a
 unfolding unnamed
-unnamed-false a e = eqb-false (keyOf a) 0 e
+unnamed-false a e = eqb-false a 0 e
 
 pub name-dec : Discrete Name
 name-dec = ℕ-discrete
 
--- a header and a key make the name
-pub name-kept : (l l′ : List ℕ) (n w s : ℕ) → header l′ s ≡ header l s → keyAt l′ n w s ≡ keyAt l n w s → nameAt l′ n w s ≡ nameAt l n w s
+-- a key makes the name
+pub name-kept : (l l′ : List ℕ) (n w s : ℕ) → keyAt l′ n w s ≡ keyAt l n w s → nameAt l′ n w s ≡ nameAt l n w s
 unfolding nameAt
-name-kept l l′ n w s h k = λ i. nameOf (h i) (k i)
+name-kept l l′ n w s k = k

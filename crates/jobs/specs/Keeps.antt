@@ -15,7 +15,8 @@ use Rattle.image.specs.declared.header.Header.{Header}
 use Rattle.transient.specs.declared.sizes.Sizes.{Sizes}
 use Rattle.transient.specs.Store.{Store, Table, tableOf, sizesOf, Outcome, afterCheck}
 use Rattle.transient.specs.Entry.{entryCheck}
-use Rattle.transient.specs.Calls.{Changed, changed, refused, inStore, onStore}
+use Rattle.transient.specs.Calls.{Changed, changed, refused, onStore}
+use Rattle.transient.specs.Passed.{inStore}
 use Rattle.jobs.specs.declared.way.Way.{Way}
 use Rattle.jobs.specs.declared.way.Way.the-variants.{Open, Declined}
 use Rattle.jobs.specs.Job.{superseded}

@@ -15,13 +15,13 @@ use Rattle.search.specs.declared.Found.the-variants.{At, Nothing}
 use Rattle.reply.specs.declared.Check.{Check}
 use Rattle.reply.specs.declared.Check.the-variants.{Accepted, Refused}
 use Rattle.reply.specs.declared.Refusal.{Refusal}
-use Rattle.image.specs.Layout.{header, slotsOf, freeHeader}
+use Rattle.image.specs.Layout.{slotsOf, freeHeader}
 use Rattle.image.specs.Line.{headerLine, storeLine}
 use Rattle.transient.specs.Store.{Store, store, Outcome, afterCheck}
 use Rattle.survival.specs.Survivors.{survivor}
 use Rattle.acceptance.specs.Accept.{imageCheck}
-use Rattle.recovery.specs.Recover.{nextFreed, lengthsFit, recoverCheck, finished, freeing, recover}
-use Rattle.recovery.specs.Requires.{recoverEntryCheck}
+use Rattle.recovery.specs.Recover.{nextFreed, lengthsFit, recoverCheck, freeing, recover}
+use Rattle.recovery.specs.Requires.{finished}
 use Rattle.recovery.specs.Steps.{SameSurvivors, filledAt, step-keeps, step-accepted, step-lowers, done-survivors}
 use Rattle.recovery.specs.declared.Recovery.{Recovery}
 use Rattle.recovery.specs.declared.Recovery.the-variants.{WentOn, Done, Declined}
@@ -64,7 +64,6 @@ same-refl l =
       width = refl;
       clock = refl;
       survivors = λ s h. refl;
-      headers = λ s h v. refl;
       lines = λ s. refl;
       keys = λ s. refl;
       values = λ s. refl;
@@ -73,14 +72,12 @@ same-refl l =
 same-trans : {l m k : List ℕ} → SameSurvivors l m → SameSurvivors m k → SameSurvivors l k
 same-trans {l} {m} {k} a b =
     let survivors : (s : ℕ) → s < slotsOf l → survivor k (slotsOf l) s ≡ survivor m (slotsOf l) s = rw (a .slots) at (b .survivors) in
-    let headers : (s : ℕ) → s < slotsOf l → survivor m (slotsOf l) s ≡ true → header k s ≡ header m s = rw (a .slots) at (b .headers) in
     record {
       long = b .long ∙ a .long;
       slots = b .slots ∙ a .slots;
       width = b .width ∙ a .width;
       clock = b .clock ∙ a .clock;
       survivors = λ s h. survivors s h ∙ a .survivors s h;
-      headers = λ s h v. headers s h (a .survivors s h ∙ v) ∙ a .headers s h v;
       lines = λ s. (rw (a .slots, a .width) at (b .lines s)) ∙ a .lines s;
       keys = λ s. (rw (a .slots, a .width) at (b .keys s)) ∙ a .keys s;
       values = λ s. (rw (a .slots, a .width) at (b .values s)) ∙ a .values s;
@@ -116,7 +113,7 @@ way-bound {l} o = omega (arith, count-top (filledAt l) (slotsOf l))
 -- ---- one call on an accepted image: it does not decline
 not-declined : (w l t : List ℕ) → imageCheck l ≡ Accepted → lengthsFit (length w) l (length t) ≡ true
     → recover (store w l t) ≡ freeing (nextFreed l (slotsOf l)) (store w l t) (slotsOf l)
-unfolding recover recoverCheck recoverEntryCheck imageCheck
+unfolding recover recoverCheck
 not-declined w l t ok fit = rw (fit, ok)
 
 module _ (l : List ℕ) (ok : imageCheck l ≡ Accepted) (any : AnyWords l) where
@@ -130,7 +127,7 @@ module _ (l : List ℕ) (ok : imageCheck l ≡ Accepted) (any : AnyWords l) wher
   lasting-next i = refl
 
   call-cases : (i : ℕ) → OnTheWay l i (lasting any i) → Call i
-  unfolding call lengthsFit
+  unfolding call lengthsFit finished
   call-cases i o = go (found-cases (nextFreed l′ (slotsOf l′)))
     where
       l′ : List ℕ

@@ -2,6 +2,7 @@
 use Prim.Native.Nat.{ℕ, _+_, _≤_, _<_, _^_}
 use mathlib.Core.Path.{_≡_, refl, sym, ap, _∙_}
 use mathlib.Core.Bool.{Bool, true, false, not, _&&_}
+use mathlib.Core.Logic.{⊎-elim}
 use mathlib.Core.List.{List}
 use lib.ListN.{length, getD}
 use lib.Dec.{leb, eqb}
@@ -9,7 +10,7 @@ use mir.Val.{Fits}
 use mir.Syntax.{w32}
 use borrow.Author.Tests.{lt-ltb, le-ltb, eq-eqb, ne-eqb, eqb-true, leb-true, not-false}
 use native.Mathlib.Omega.{arith}
-use Rattle.search.specs.Bools.{and-left, and-right, tests}
+use Rattle.search.specs.Bools.{cases, and-left, and-right, tests}
 use Rattle.search.specs.First.{firstOf, found-first, loops as firsts}
 use Rattle.search.specs.Largest.{largest, raised, largest-top, loops as climbs}
 use Rattle.search.specs.declared.Found.{Found}
@@ -18,7 +19,7 @@ use Rattle.reply.specs.declared.Check.{Check}
 use Rattle.reply.specs.declared.Check.the-variants.{Accepted, Refused}
 use Rattle.reply.specs.declared.Refusal.{Refusal}
 use Rattle.reply.specs.declared.Refusal.the-variants.{BadSizes, BadClock}
-use Rattle.reply.specs.Refusals.{refuse, not-refused}
+use Rattle.reply.specs.Refusals.{refuse, byCheck, not-refused}
 use Rattle.image.specs.declared.header.Header.{Header}
 use Rattle.image.specs.Layout.{mostSlots, mostNumber, filledKind, header, slotsOf, widthOf, clockOf, shapeOk, clockOk, freeHeader}
 use Rattle.image.specs.Line.{headerLine, stored, storeLine}
@@ -27,19 +28,20 @@ use Rattle.image.specs.Laws.{shaped, stored-whole}
 use Rattle.transient.specs.Layout.{threadsOf, threadsOk, blank}
 use Rattle.transient.specs.Store.{store, Outcome, outcome}
 use Rattle.transient.specs.Requires.{Blanking}
-use Rattle.survival.specs.Survivors.{survivor, keptAnti}
-use Rattle.survival.specs.Requires.{Headers, Marked, AllMarked, FlagAt, headers-of, header-in, flag-at, flag-header, flag-of, marks}
+use Rattle.survival.specs.Survivors.{survivor}
+use Rattle.survival.specs.Requires.{keptAnti, Headers, Marked, AllMarked, FlagAt, headers-of, header-in, flag-at, flag-header, flag-of, marks}
 use Rattle.survival.specs.Laws.{flag-is}
-use Rattle.acceptance.specs.Accept.{headCheck, slotsCheck}
+use Rattle.acceptance.specs.Requires.{headCheck, slotsCheck}
+use Rattle.acceptance.specs.Laws.{image-is}
 use Rattle.acceptance.specs.Sound.{Sound, sound, uid-top}
 use Rattle.recovery.specs.declared.Recovery.{Recovery}
 use Rattle.recovery.specs.declared.Recovery.the-variants.{WentOn, Done, Declined}
-use Rattle.recovery.specs.Recover.{antiAt, stale, nextFreed, nextUid, lengthsFit, recoverCheck, finished, freeing, recover}
-use Rattle.recovery.specs.Requires.{uidOf, recoverEntryCheck, Uids, Finishing, Judged, recoverSized}
+use Rattle.recovery.specs.Recover.{antiAt, stale, nextFreed, nextUid, lengthsFit, recoverCheck, freeing, recover}
+use Rattle.recovery.specs.Requires.{uidOf, recoverEntryCheck, finished, Uids, Finishing, Judged, recoverSized}
 
 -- ---- what is freed next
 pub anti-is : (l : List ℕ) (s : ℕ) {c : ℕ} {r : Bool} → c ≡ clockOf l → r ≡ keptAnti c (header l s) → r ≡ antiAt l s
-unfolding antiAt
+unfolding antiAt keptAnti
 anti-is l s e h = rw (← e) h
 
 module _ (l : List ℕ) (n s : ℕ) (flags : List Bool) {h : Header} {f : Bool} (z : FlagAt l n s flags) (at : h ≡ header l s) (fl : f ≡ filledKind (h .kind)) where
@@ -127,6 +129,7 @@ module _ (wk l t : List ℕ) (n : ℕ) {f : Found} (fr : f ≡ nextFreed l n) wh
   free-on e q p = rw (← fr, e, p, q)
 
   pub free-done : {wk′ t′ : List ℕ} → f ≡ Nothing → store wk′ l t′ ≡ finished l (length t) n → outcome Done wk′ l t′ ≡ freeing (nextFreed l n) (store wk l t) n
+  unfolding finished
   free-done {wk′} {t′} e p = rw (← fr, e) (ap (λ st. record { reply = Done; store = st }) p)
 
 -- ---- refusals 1 and 2
@@ -210,13 +213,22 @@ module _ (wk l t : List ℕ) (n w : ℕ) {k : Check} (c : k ≡ slotsCheck l n w
   unfolding recoverSized
   step-goes a h = rw (← c, a) h
 
+-- refusals 1 and 2, then 3 and 4
+recover-is : (wk l t : List ℕ) → recoverCheck (store wk l t) ≡ byCheck (recoverEntryCheck (length wk) l (length t)) Refused (slotsCheck l (slotsOf l) (widthOf l))
+unfolding recoverCheck recoverEntryCheck
+recover-is wk l t =
+    ⊎-elim
+    (λ (y : lengthsFit (length wk) l (length t) ≡ true). rw y (image-is l))
+    (λ (f : lengthsFit (length wk) l (length t) ≡ false). rw f)
+    (cases (lengthsFit (length wk) l (length t)))
+
 module _ (wk l t : List ℕ) {k : Check} (c : k ≡ recoverEntryCheck (length wk) l (length t)) where
   pub recover-declines : {r : Refusal} → k ≡ Refused r → outcome (Declined r) wk l t ≡ recover (store wk l t)
-  unfolding recover recoverCheck recoverEntryCheck
-  recover-declines a = rw (← c, a)
+  unfolding recover
+  recover-declines a = rw (recover-is wk l t, ← c, a)
 
   pub recover-goes : (n w : ℕ) {r : Outcome Recovery} → k ≡ Accepted → n ≡ slotsOf l → w ≡ widthOf l → r ≡ recoverSized (store wk l t) n w → r ≡ recover (store wk l t)
-  unfolding recover recoverCheck recoverEntryCheck recoverSized
-  recover-goes n w a p q h = rw (← c, a, ← p, ← q) h
+  unfolding recover recoverSized
+  recover-goes n w a p q h = rw (recover-is wk l t, ← c, a, ← p, ← q) h
 
 pub ruleset steps = (tests, firsts, marks, climbs, flag-at, flag-header, flag-of, anti-is, stale-free, stale-survives, stale-anti, stale-yes, freed-stale, freed-anti, raise-miss, raise-up, raise-level, uid-fits, uid-is, finish-marked, finish-header, finish-slots, finish-blank, finish-done, free-on, free-done, entry-shape, entry-working, entry-threads, entry-head, entry-first, entry-slots, judged, judged-long, judged-marked, judged-headers, judged-finishing, step-declines, step-goes, recover-declines, recover-goes)

@@ -11,8 +11,10 @@ use Rattle.search.specs.Bools.{never, refuted, same-test, and-left, and-right, 
 use Rattle.search.specs.Some.{anyOf, some-at, some-one, some-none, none-some}
 use Rattle.image.specs.declared.header.Header.{Header}
 use Rattle.image.specs.Layout.{filledKind, payloadKind, freeHeader}
-use Rattle.survival.specs.Survivors.{kept, beats, beaten, wins, survives, keptAnti}
-use Rattle.acceptance.specs.Accept.{blankHeader, proper, sameVersion, versionBelow}
+use Rattle.survival.specs.Survivors.{kept, beats, wins, survives}
+use Rattle.survival.specs.Requires.{keptAnti}
+use Rattle.acceptance.specs.Accept.{blankHeader, proper, versionBelow}
+use Rattle.acceptance.specs.Requires.{sameVersion}
 
 -- ---- kinds: the filled ones are the payloads and DELETE
 payload-filled : (k : ℕ) → payloadKind k ≡ true → filledKind k ≡ true
@@ -80,7 +82,7 @@ record Survives (c : ℕ) (h : Header) (hs : ℕ → Header) (n : ℕ) : Type 0 
   unbeaten : (t : ℕ) → t < n → beats c h (hs t) ≡ false
 
 survives-says : (c : ℕ) (hs : ℕ → Header) (n s : ℕ) → survives c hs n s ≡ true → Survives c (hs s) hs n
-unfolding survives wins beaten
+unfolding survives wins
 survives-says c hs n s e =
     let p = payloadKind (hs s .kind) in
     let k = kept c (hs s) in
@@ -92,7 +94,7 @@ survives-says c hs n s e =
     }
 
 says-survives : {c : ℕ} {hs : ℕ → Header} {n : ℕ} (s : ℕ) → Survives c (hs s) hs n → survives c hs n s ≡ true
-unfolding survives wins beaten
+unfolding survives wins
 says-survives {c} {hs} {n} s v =
     and-both (v .payload) (and-both (v .is-kept) (not-is-true (none-some (λ t. beats c (hs s) (hs t)) n (v .unbeaten))))
 
@@ -165,7 +167,7 @@ module _ (c : ℕ) {hs hs′ : ℕ → Header} {s₀ : ℕ} (f : Freed hs hs′ 
 
   -- no version stands twice that did not before
   pub freed-versions : (s : ℕ) → versionBelow c hs s ≡ false → versionBelow c hs′ s ≡ false
-  unfolding versionBelow
+  unfolding versionBelow sameVersion
   freed-versions s u =
       refuted (versionBelow c hs′ s)
       (λ y.
@@ -177,7 +179,7 @@ module _ (c : ℕ) {hs hs′ : ℕ → Header} {s₀ : ℕ} (f : Freed hs hs′ 
 
 -- ---- first pass: a filled slot that neither survives nor is a kept DELETE. Where it beats, it is a payload, and what beat it beats on.
 pub stale-covered : (c : ℕ) (hs : ℕ → Header) (n s₀ : ℕ) → survives c hs n s₀ ≡ false → keptAnti c (hs s₀) ≡ false → Covered c hs n s₀
-unfolding survives wins beaten keptAnti
+unfolding survives wins keptAnti
 stale-covered c hs n s₀ dies plain s l p b =
     let e = beats-says c (hs s) (hs s₀) b in
     let payload = filled-payload (hs s₀ .kind) (kept-filled c (hs s₀) (e .is-kept)) (eqb-false (hs s₀ .kind) 3 (rw (e .is-kept) at plain)) in

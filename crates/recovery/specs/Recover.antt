@@ -9,20 +9,20 @@ use Rattle.search.specs.Largest.{largest}
 use Rattle.search.specs.declared.Found.{Found}
 use Rattle.search.specs.declared.Found.the-variants.{At, Nothing}
 use Rattle.reply.specs.declared.Check.{Check}
-use Rattle.reply.specs.declared.Check.the-variants.{Refused}
 use Rattle.reply.specs.declared.Refusal.the-variants.{BadSizes}
-use Rattle.reply.specs.Refusals.{refuse, byCheck, declinedNumber}
-use Rattle.image.specs.Layout.{filledKind, header, slotsOf, widthOf, clockOf, freeHeader}
+use Rattle.reply.specs.Refusals.{refuse, declinedNumber}
+use Rattle.image.specs.Layout.{filledKind, header, slotsOf, clockOf, freeHeader}
 use Rattle.image.specs.Line.{headerLine, storeLine}
-use Rattle.transient.specs.Store.{Store, store, Outcome, outcome, afterCheck}
+use Rattle.transient.specs.Store.{Store, Outcome, outcome, afterCheck}
 use Rattle.transient.specs.Layout.{threadsOk, blank}
-use Rattle.survival.specs.Survivors.{survivor, keptAnti}
-use Rattle.acceptance.specs.Accept.{headCheck, slotsCheck}
+use Rattle.survival.specs.Survivors.{kept, survivor}
+use Rattle.acceptance.specs.Accept.{imageCheck}
 use Rattle.recovery.specs.declared.Recovery.{Recovery}
 use Rattle.recovery.specs.declared.Recovery.the-variants.{WentOn, Done, Declined}
 
+-- a kept DELETE
 unfoldable pub antiAt : List ℕ → ℕ → Bool
-antiAt l s = keptAnti (clockOf l) (header l s)
+antiAt l s = kept (clockOf l) (header l s) && eqb (header l s .kind) 3
 
 -- "every filled slot that neither survives nor is a kept DELETE"
 unfoldable pub stale : List ℕ → ℕ → ℕ → Bool
@@ -42,19 +42,13 @@ unfoldable pub lengthsFit : ℕ → List ℕ → ℕ → Bool
 lengthsFit working l transient = eqb working (length l) && threadsOk transient (slotsOf l)
 
 unfoldable pub recoverCheck : Store → Check
-recoverCheck st =
-    byCheck
-    (refuse (not (lengthsFit (length (st .working)) (st .persistent) (length (st .transient)))) BadSizes (headCheck (st .persistent)))
-    Refused (slotsCheck (st .persistent) (slotsOf (st .persistent)) (widthOf (st .persistent)))
+recoverCheck st = refuse (not (lengthsFit (length (st .working)) (st .persistent) (length (st .transient)))) BadSizes (imageCheck (st .persistent))
 
 -- "frees the next such mark, leaves working and notes alone and replies went on. The call that finds none to free replies done;
 -- only there does working become a copy and are the notes set."
-unfoldable pub finished : List ℕ → ℕ → ℕ → Store
-finished l transient n = store l l (blank transient n (nextUid l n))
-
 abbrev pub freeing : Found → Store → ℕ → Outcome Recovery
 freeing (At s) st n = outcome WentOn (st .working) (storeLine (st .persistent) (headerLine s freeHeader)) (st .transient)
-freeing Nothing st n = record { reply = Done; store = finished (st .persistent) (length (st .transient)) n }
+freeing Nothing st n = outcome Done (st .persistent) (st .persistent) (blank (length (st .transient)) n (nextUid (st .persistent) n))
 
 unfoldable pub recover : Store → Outcome Recovery
 recover st =

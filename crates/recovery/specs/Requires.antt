@@ -9,11 +9,11 @@ use Rattle.reply.specs.declared.Refusal.the-variants.{BadSizes}
 use Rattle.reply.specs.Refusals.{refuse}
 use Rattle.image.specs.Layout.{mostNumber, header}
 use Rattle.image.specs.Requires.{Sized}
-use Rattle.transient.specs.Layout.{headWords}
-use Rattle.transient.specs.Store.{Store, Outcome, afterCheck}
+use Rattle.transient.specs.Layout.{headWords, blank}
+use Rattle.transient.specs.Store.{Store, store, Outcome, afterCheck}
 use Rattle.survival.specs.Requires.{Marked}
-use Rattle.acceptance.specs.Accept.{headCheck, slotsCheck}
-use Rattle.recovery.specs.Recover.{nextFreed, lengthsFit, freeing}
+use Rattle.acceptance.specs.Requires.{headCheck, slotsCheck}
+use Rattle.recovery.specs.Recover.{nextFreed, nextUid, lengthsFit, freeing}
 use Rattle.recovery.specs.declared.Recovery.{Recovery}
 use Rattle.recovery.specs.declared.Recovery.the-variants.{Declined}
 
@@ -34,6 +34,10 @@ pub record Finishing (wk l t : List ℕ) (flags : List Bool) (n : ℕ) : Type 0 
   pub some : 1 ≤ n
   pub same : length wk ≡ length l
   pub notes : headWords ≤ length t
+
+-- what it leaves, in the words of `freeing`
+unfoldable pub finished : List ℕ → ℕ → ℕ → Store
+finished l transient n = store l l (blank transient n (nextUid l n))
 
 -- ---- past refusals 1 and 2
 pub record Judged (wk l t : List ℕ) (n w : ℕ) : Type 0 where

@@ -1,8 +1,8 @@
 -- A step of recovery keeps acceptance and the survivors and lowers the number of filled slots; at "done" just survivors are left.
 -- The slot it frees is covered (`Freed`): a stale one by what beat it, a kept DELETE because no payload of its uid is left.
 use Prim.Native.Nat.{ℕ, _+_, _<_}
-use mathlib.Core.Path.{_≡_, refl, sym, ap, _∙_}
-use mathlib.Core.Bool.{Bool, true, false, not, _&&_}
+use mathlib.Core.Path.{_≡_, refl, sym, _∙_}
+use mathlib.Core.Bool.{Bool, true, false, not}
 use mathlib.Core.Logic.{_≢_}
 use mathlib.Core.List.{List}
 use lib.ListN.{length}
@@ -18,11 +18,13 @@ use Rattle.search.specs.declared.Found.the-variants.{At, Nothing}
 use Rattle.reply.specs.declared.Check.the-variants.{Accepted}
 use Rattle.image.specs.Layout.{filledKind, header, contents, keyAt, valueAt, slotsOf, widthOf, clockOf, freeHeader}
 use Rattle.image.specs.Line.{headerLine, storeLine}
-use Rattle.image.specs.Name.{Name, Named, nameAt, sameName, unnamed, name-same, unnamed-false, name-kept}
+use Rattle.image.specs.Name.{Name, Named, nameAt, name-same, unnamed-false, name-kept}
 use Rattle.image.specs.Requires.{header-fits, sized-after}
 use Rattle.image.specs.Laws.{length-store, front-past-header, header-same, header-other, contents-past-header, key-past-header, value-past-header}
 use Rattle.survival.specs.Survivors.{survivor}
-use Rattle.acceptance.specs.Accept.{nameless, survivesAs, nameBelow, imageCheck}
+use Rattle.survival.specs.Requires.{keptAnti}
+use Rattle.acceptance.specs.Accept.{survivesAs, nameBelow, imageCheck}
+use Rattle.acceptance.specs.Requires.{nameless}
 use Rattle.recovery.specs.Recover.{antiAt, stale, nextFreed}
 use Rattle.acceptance.specs.Sound.{accepted-says, says-accepted}
 use Rattle.recovery.specs.Freed.{Freed, Covered, anti-says, survives-filled, kept-filled, freed-survives, freed-proper, freed-versions, stale-covered, anti-dies, anti-covered}
@@ -37,7 +39,6 @@ pub record SameSurvivors (l l′ : List ℕ) : Type 0 where
   pub width : widthOf l′ ≡ widthOf l
   pub clock : clockOf l′ ≡ clockOf l
   pub survivors : (s : ℕ) → s < slotsOf l → survivor l′ (slotsOf l) s ≡ survivor l (slotsOf l) s
-  pub headers : (s : ℕ) → s < slotsOf l → survivor l (slotsOf l) s ≡ true → header l′ s ≡ header l s
   pub lines : (s : ℕ) → contents l′ (slotsOf l) (widthOf l) s ≡ contents l (slotsOf l) (widthOf l) s
   pub keys : (s : ℕ) → keyAt l′ (slotsOf l) (widthOf l) s ≡ keyAt l (slotsOf l) (widthOf l) s
   pub values : (s : ℕ) → valueAt l′ (slotsOf l) (widthOf l) s ≡ valueAt l (slotsOf l) (widthOf l) s
@@ -50,7 +51,7 @@ record Spent (l : List ℕ) (n s : ℕ) : Type 0 where
   covered : Covered (clockOf l) (header l) n s
 
 stale-spent : (l : List ℕ) (n s : ℕ) → First (stale l n) n s → Spent l n s
-unfolding stale filledAt survivor antiAt
+unfolding stale filledAt survivor antiAt keptAnti
 stale-spent l n s f =
     let full = filledKind (header l s .kind) in
     let out = not (survivor l n s) in
@@ -69,7 +70,7 @@ unfolding stale filledAt
 none-stale l n s u f d = not-false (antiAt l s) (rw (f, d) at u)
 
 anti-spent : (l : List ℕ) (n s : ℕ) → ((t : ℕ) → t < n → stale l n t ≡ false) → First (antiAt l) n s → Spent l n s
-unfolding filledAt survivor antiAt
+unfolding filledAt survivor antiAt keptAnti
 anti-spent l n s none f =
     let a = anti-says (clockOf l) (header l s) (f .passes) in
     record {
@@ -108,7 +109,6 @@ module _ (l : List ℕ) (s : ℕ) (ok : imageCheck l ≡ Accepted) (next : nextF
         width = front-past-header l s 1 freeHeader (omega arith);
         clock = clock;
         survivors = λ t h. rw clock (freed-survives (clockOf l) freed n (p .dies) (p .covered) t h);
-        headers = λ t h v. header-other l s t freeHeader (λ e. never _ (rw e at v) (p .dies));
         lines = λ t. contents-past-header l n (widthOf l) s t freeHeader (p .below);
         keys = λ t. key-past-header l n (widthOf l) s t freeHeader (p .below);
         values = λ t. value-past-header l n (widthOf l) s t freeHeader (p .below);
@@ -122,23 +122,19 @@ module _ (l : List ℕ) (s : ℕ) (ok : imageCheck l ≡ Accepted) (next : nextF
       (rw (freed .here))
       (λ t h d. rw (freed .there t d))
 
-and-under : (b x y : Bool) → (b ≡ true → x ≡ y) → b && x ≡ b && y
-and-under true x y h = h refl
-and-under false x y h = refl
-
 -- ---- acceptance goes by the survivors, but for properness and versions
 module _ {l l′ : List ℕ} (same : SameSurvivors l l′) where
-  -- a survivor keeps its name
-  name-same-at : (s : ℕ) → s < slotsOf l → survivor l (slotsOf l) s ≡ true → nameAt l′ (slotsOf l) (widthOf l) s ≡ nameAt l (slotsOf l) (widthOf l) s
-  name-same-at s h v = name-kept l l′ (slotsOf l) (widthOf l) s (same .headers s h v) (same .keys s)
+  -- a slot keeps its name
+  name-same-at : (s : ℕ) → nameAt l′ (slotsOf l) (widthOf l) s ≡ nameAt l (slotsOf l) (widthOf l) s
+  name-same-at s = name-kept l l′ (slotsOf l) (widthOf l) s (same .keys s)
 
   named-same : (s : ℕ) → s < slotsOf l → nameless l′ (slotsOf l) (widthOf l) s ≡ nameless l (slotsOf l) (widthOf l) s
   unfolding nameless
-  named-same s h = rw (same .survivors s h) (and-under (survivor l (slotsOf l) s) _ _ (λ v. ap unnamed (name-same-at s h v)))
+  named-same s h = rw (same .survivors s h, name-same-at s)
 
   pub survives-same : (name : Name) (t : ℕ) → t < slotsOf l → survivesAs l′ (slotsOf l) (widthOf l) name t ≡ survivesAs l (slotsOf l) (widthOf l) name t
   unfolding survivesAs
-  survives-same name t h = rw (same .survivors t h) (and-under (survivor l (slotsOf l) t) _ _ (λ v. ap (λ (k : Name). sameName k name) (name-same-at t h v)))
+  survives-same name t h = rw (same .survivors t h, name-same-at t)
 
   names-same : (s : ℕ) → s < slotsOf l → nameBelow l′ (slotsOf l) (widthOf l) s ≡ nameBelow l (slotsOf l) (widthOf l) s
   unfolding nameBelow
@@ -147,7 +143,7 @@ module _ {l l′ : List ℕ} (same : SameSurvivors l l′) where
       let w = widthOf l in
       let k = nameAt l n w s in
       let below = some-same (survivesAs l′ n w k) (survivesAs l n w k) s (λ t u. survives-same k t (omega arith)) in
-      rw (same .survivors s h) (and-under (survivor l n s) _ _ (λ v. rw (name-same-at s h v) below))
+      rw (same .survivors s h, name-same-at s, below)
 
 pub step-accepted : (l : List ℕ) (s : ℕ) → imageCheck l ≡ Accepted → nextFreed l (slotsOf l) ≡ At s → imageCheck (storeLine l (headerLine s freeHeader)) ≡ Accepted
 step-accepted l s ok next =

@@ -9,9 +9,9 @@ ghost use Rattle.search.specs.First.{firstOf};
 ghost use Rattle.search.specs.Largest.{raised};
 ghost use Rattle.transient.specs.Store.{store, outcome};
 ghost use Rattle.survival.specs.Survivors.{survivor};
-ghost use Rattle.recovery.specs.Recover.{antiAt, stale, nextFreed, nextUid, finished, freeing, recover};
+ghost use Rattle.recovery.specs.Recover.{antiAt, stale, nextFreed, nextUid, freeing, recover};
 ghost use Rattle.survival.specs.Requires.{FlagAt, Headers, HeaderOf, Marked};
-ghost use Rattle.recovery.specs.Requires.{uidOf, recoverEntryCheck, Uids, Finishing, Judged, recoverSized};
+ghost use Rattle.recovery.specs.Requires.{uidOf, recoverEntryCheck, finished, Uids, Finishing, Judged, recoverSized};
 
 // One recover call's answer: "went on", "done", or a refusal.
 pub enum Recovery {

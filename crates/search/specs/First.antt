@@ -11,23 +11,25 @@ use Rattle.search.specs.Bools.{cases}
 use Rattle.search.specs.declared.Found.{Found}
 use Rattle.search.specs.declared.Found.the-variants.{At, Nothing}
 
--- the least index of [i, i + k) that passes, else i + k
-unfoldable pub first : (ℕ → Bool) → ℕ → ℕ → ℕ
-first p i zero = i
-first p i (suc k) = cond (p i) i (first p (i + 1) k)
-
 -- by what a search found
 abbrev pub whereFound : {A : Type 0} → Found → (ℕ → A) → A → A
 whereFound (At s) at nothing = at s
 whereFound Nothing at nothing = nothing
 
+-- the least index below n that passes, as an answer
+unfoldable pub firstOf : (ℕ → Bool) → ℕ → Found
+firstOf p zero = Nothing
+firstOf p (suc n) = whereFound (firstOf p n) At (cond (p n) (At n) Nothing)
+
+-- ---- the same from the first index on, as a loop goes
+-- the least index of [i, i + k) that passes, else i + k
+unfoldable pub first : (ℕ → Bool) → ℕ → ℕ → ℕ
+first p i zero = i
+first p i (suc k) = cond (p i) i (first p (i + 1) k)
+
 -- an index r below n as an answer
 abbrev pub found : ℕ → ℕ → Found
 found n r = cond (ltb r n) (At r) Nothing
-
--- the least index below n that passes, as an answer
-unfoldable pub firstOf : (ℕ → Bool) → ℕ → Found
-firstOf p n = found n (first p 0 n)
 
 -- from i on: at a hit, at a miss, at the end
 module _ (p : ℕ → Bool) where
@@ -76,12 +78,37 @@ module _ (p : ℕ → Bool) where
       (λ f. let h′ : first p (i + 1) k < i + suc k = rw f at h in rw f (first-at k (i + 1) (omega arith)))
       (cases (p i))
 
--- two tests that agree have one first index
-pub first-same : (p q : ℕ → Bool) (k i : ℕ) → ((j : ℕ) → i ≤ j → j < i + k → p j ≡ q j) → first p i k ≡ first q i k
-unfolding first
-first-same p q zero i h = refl
-first-same p q (suc k) i h =
-    rw (h i (omega arith) (omega arith), first-same p q k (i + 1) (λ j l u. h j (omega arith) (omega arith)))
+-- one index more, and the two ways to say the first
+module _ (p : ℕ → Bool) where
+  first-more : (k i : ℕ) → first p i (suc k) ≡ cond (ltb (first p i k) (i + k)) (first p i k) (cond (p (i + k)) (i + k) (i + suc k))
+  unfolding first
+  first-more zero i =
+      let e : i + 0 ≡ i = omega arith in
+      let o : i + suc 0 ≡ i + 1 = omega arith in
+      rw (e, o, le-ltb i i (omega arith))
+  first-more (suc k) i =
+      let e : i + suc k ≡ i + 1 + k = omega arith in
+      let o : i + suc (suc k) ≡ i + 1 + suc k = omega arith in
+      ⊎-elim
+      (λ (t : p i ≡ true). rw (t, lt-ltb i (i + suc k) (omega arith)))
+      (λ (f : p i ≡ false). rw (f, e, o) (first-more k (i + 1)))
+      (cases (p i))
+
+  pub first-of : (n : ℕ) → firstOf p n ≡ found n (first p 0 n)
+  unfolding firstOf
+  first-of zero = rw (first-end p 0 0 (omega arith))
+  first-of (suc n) =
+      let z : 0 + n ≡ n = omega arith in
+      let o : 0 + suc n ≡ suc n = omega arith in
+      ⊎-elim
+      (λ (t : ltb (first p 0 n) n ≡ true).
+      rw (first-of n, first-more n 0, z, t, lt-ltb (first p 0 n) (suc n) (omega (arith, ltb-true (first p 0 n) n t))))
+      (λ (f : ltb (first p 0 n) n ≡ false).
+      ⊎-elim
+      (λ (y : p n ≡ true). rw (first-of n, first-more n 0, z, f, y, lt-ltb n (suc n) (omega arith)))
+      (λ (y : p n ≡ false). rw (first-of n, first-more n 0, z, f, y, o, le-ltb (suc n) (suc n) (omega arith)))
+      (cases (p n)))
+      (cases (ltb (first p 0 n) n))
 
 -- THE invariant of a loop that has passed i of n: the answer is still to be found from i on
 pub record Sought (p : ℕ → Bool) (n i : ℕ) : Type 0 where
@@ -102,12 +129,10 @@ sought-end {p} {n} {i} s h = s .same ∙ first-end p i n h ∙ (omega arith)
 
 -- a loop's two answers
 pub found-hit : {p : ℕ → Bool} {n i : ℕ} {r : Bool} → Sought p n i → i < n → r ≡ p i → r ≡ true → At i ≡ firstOf p n
-unfolding firstOf
-found-hit {p} {n} {i} s h e f = rw (sought-hit s h e f, lt-ltb i n h)
+found-hit {p} {n} {i} s h e f = rw (first-of p n, sought-hit s h e f, lt-ltb i n h)
 
 pub found-end : {p : ℕ → Bool} {n i : ℕ} → Sought p n i → n ≤ i → Nothing ≡ firstOf p n
-unfolding firstOf
-found-end {p} {n} {i} s h = rw (sought-end s h, le-ltb n n (omega arith))
+found-end {p} {n} {i} s h = rw (first-of p n, sought-end s h, le-ltb n n (omega arith))
 
 -- what an answer says: a slot found is below n and the first that passes; where none is found, none passes
 pub record First (p : ℕ → Bool) (n s : ℕ) : Type 0 where
@@ -116,11 +141,10 @@ pub record First (p : ℕ → Bool) (n s : ℕ) : Type 0 where
   pub before : (j : ℕ) → j < s → p j ≡ false
 
 pub found-first : (p : ℕ → Bool) (n : ℕ) {s : ℕ} → firstOf p n ≡ At s → First p n s
-unfolding firstOf
 found-first p n {s} e =
     ⊎-elim
     (λ (t : ltb (first p 0 n) n ≡ true).
-    let q : At (first p 0 n) ≡ At s = rw t at e in
+    let q : At (first p 0 n) ≡ At s = rw (first-of p n, t) at e in
     let z : first p 0 n ≡ s = cc in
     let u : first p 0 n < n = ltb-true _ _ t in
     record {
@@ -129,26 +153,27 @@ found-first p n {s} e =
       before = λ j h. first-before p n 0 j (omega arith) (omega arith);
     })
     (λ (f : ltb (first p 0 n) n ≡ false).
-    let q : Nothing ≡ At s = rw f at e in
+    let q : Nothing ≡ At s = rw (first-of p n, f) at e in
     let z : _≡_ {A = ℕ} 0 1 = cc in
     absurd (omega arith))
     (cases (ltb (first p 0 n) n))
 
 pub found-nothing : (p : ℕ → Bool) (n : ℕ) → firstOf p n ≡ Nothing → (j : ℕ) → j < n → p j ≡ false
-unfolding firstOf
 found-nothing p n e j h =
     ⊎-elim
     (λ (t : ltb (first p 0 n) n ≡ true).
-    let q : At (first p 0 n) ≡ Nothing = rw t at e in
+    let q : At (first p 0 n) ≡ Nothing = rw (first-of p n, t) at e in
     let z : _≡_ {A = ℕ} 0 1 = cc in
     absurd (omega arith))
     (λ (f : ltb (first p 0 n) n ≡ false).
     first-before p n 0 j (omega arith) (omega (arith, ltb-false (first p 0 n) n f)))
     (cases (ltb (first p 0 n) n))
 
+-- two tests that agree have one first index
 pub firstOf-same : (p q : ℕ → Bool) (n : ℕ) → ((j : ℕ) → j < n → p j ≡ q j) → firstOf p n ≡ firstOf q n
 unfolding firstOf
-firstOf-same p q n h = rw (first-same p q n 0 (λ j l u. h j (omega arith)))
+firstOf-same p q zero h = refl
+firstOf-same p q (suc n) h = rw (firstOf-same p q n (λ j l. h j (omega arith)), h n (omega arith))
 
 -- the two answers, told apart
 pub found-cases : (f : Found) → ((s : ℕ) × (f ≡ At s)) ⊎ (f ≡ Nothing)

@@ -10,13 +10,13 @@ use native.Mathlib.Numerals.{add-one}
 use native.Mathlib.Omega.{arith}
 use Rattle.search.specs.Bools.{cases, and-right}
 
+unfoldable pub largest : (ℕ → Bool) → (ℕ → ℕ) → ℕ → ℕ
+largest p f zero = 0
+largest p f (suc k) = cond (p k && ltb (largest p f k) (f k)) (f k) (largest p f k)
+
 -- a larger number at i takes the place of b, if i passes
 unfoldable pub raised : (ℕ → Bool) → (ℕ → ℕ) → ℕ → ℕ → ℕ
 raised p f i b = cond (p i && ltb b (f i)) (f i) b
-
-unfoldable pub largest : (ℕ → Bool) → (ℕ → ℕ) → ℕ → ℕ
-largest p f zero = 0
-largest p f (suc k) = raised p f k (largest p f k)
 
 -- what was there is not lowered; a number that passes counts; the bound of all holds
 module _ (p : ℕ → Bool) (f : ℕ → ℕ) (i b : ℕ) where
@@ -46,7 +46,7 @@ module _ (p : ℕ → Bool) (f : ℕ → ℕ) (i b : ℕ) where
 
 -- each that passes is at most the largest
 pub largest-bounds : (p : ℕ → Bool) (f : ℕ → ℕ) (k i : ℕ) → i < k → p i ≡ true → f i ≤ largest p f k
-unfolding largest
+unfolding largest raised
 largest-bounds p f zero i h t = absurd (omega arith)
 largest-bounds p f (suc k) i h t =
     ⊎-elim
@@ -55,12 +55,12 @@ largest-bounds p f (suc k) i h t =
     (eq-or-lt-of-le (omega arith))
 
 pub largest-top : (p : ℕ → Bool) (f : ℕ → ℕ) (top k : ℕ) → ((i : ℕ) → i < k → f i ≤ top) → largest p f k ≤ top
-unfolding largest
+unfolding largest raised
 largest-top p f top zero h = omega arith
 largest-top p f top (suc k) h = raised-top p f k (largest p f k) top (largest-top p f top k (λ i l. h i (omega arith))) (h k (omega arith))
 
 pub largest-same : (p q : ℕ → Bool) (f g : ℕ → ℕ) (k : ℕ) → ((i : ℕ) → i < k → p i ≡ q i) → ((i : ℕ) → i < k → f i ≡ g i) → largest p f k ≡ largest q g k
-unfolding largest raised
+unfolding largest
 largest-same p q f g zero h e = refl
 largest-same p q f g (suc k) h e =
     rw (h k (omega arith), e k (omega arith), largest-same p q f g k (λ i l. h i (omega arith)) (λ i l. e i (omega arith)))
@@ -75,7 +75,7 @@ unfolding largest
 climbing-start p f n = record { low = omega arith; so-far = refl }
 
 pub climbing-next : {p : ℕ → Bool} {f : ℕ → ℕ} {n i b b′ : ℕ} → Climbing p f n i b → i < n → b′ ≡ raised p f i b → Climbing p f n (i + 1) b′
-unfolding largest
+unfolding largest raised
 climbing-next {p} {f} {n} {i} {b} z h e = record { low = omega arith; so-far = rw (add-one i, ← z .so-far) e }
 
 pub climbing-end : {p : ℕ → Bool} {f : ℕ → ℕ} {n i b : ℕ} → Climbing p f n i b → n ≤ i → b ≡ largest p f n

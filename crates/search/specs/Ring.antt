@@ -10,7 +10,7 @@ use native.Mathlib.Numerals.{add-one}
 use native.Mathlib.Omega.{arith}
 use Rattle.search.specs.Bools.{cases, never, flag}
 use Rattle.search.specs.Count.{count, count-same, count-zero}
-use Rattle.search.specs.First.{firstOf, First, found-first, found-nothing, found-cases, found-hit, found-end, Sought, sought-start, sought-next}
+use Rattle.search.specs.First.{whereFound, firstOf, First, found-first, found-nothing, found-cases, found-hit, found-end, Sought, sought-start, sought-next}
 use Rattle.search.specs.declared.Found.{Found}
 use Rattle.search.specs.declared.Found.the-variants.{At, Nothing}
 
@@ -19,12 +19,8 @@ unfoldable pub ringSlot : ℕ → ℕ → ℕ → ℕ
 ringSlot n last k = cond (ltb (last + 1 + k) n) (last + 1 + k) (last + 1 + k - n)
 
 -- the first slot that passes, within the given number of steps
-abbrev pub atRing : ℕ → ℕ → Found → Found
-atRing n last (At k) = At (ringSlot n last k)
-atRing n last Nothing = Nothing
-
 unfoldable pub firstRound : (ℕ → Bool) → ℕ → ℕ → ℕ → Found
-firstRound p n last steps = atRing n last (firstOf (λ k. p (ringSlot n last k)) steps)
+firstRound p n last steps = whereFound (firstOf (λ k. p (ringSlot n last k)) steps) (λ k. At (ringSlot n last k)) Nothing
 
 -- ---- the slots that are met
 module _ (n last k : ℕ) where

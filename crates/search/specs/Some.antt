@@ -1,26 +1,34 @@
 -- "Some" and "every" as tests over the indices below n. A loop for either is a search (`Sought`).
 use Prim.Native.Nat.{ℕ, _+_, _≤_, _<_}
-use mathlib.Core.Path.{_≡_, ap}
+use mathlib.Core.Path.{_≡_, sym, ap, _∙_}
 use mathlib.Core.Bool.{Bool, true, false, not}
 use mathlib.Core.Logic.{⊎-elim}
 use lib.Dec.{ltb}
 use borrow.Author.Tests.{lt-ltb, le-ltb, ltb-true, ltb-false, not-false, not-true}
 use native.Mathlib.Omega.{arith}
 use Rattle.search.specs.Bools.{cases, never, not-is-true, not-is-false}
-use Rattle.search.specs.First.{first, first-at, first-before, first-same, Sought, sought-start, sought-next, sought-hit, sought-end}
+use Rattle.search.specs.First.{whereFound, firstOf, firstOf-same, first, first-of, first-at, first-before, Sought, sought-start, sought-next, sought-hit, sought-end}
 
 unfoldable pub anyOf : (ℕ → Bool) → ℕ → Bool
-anyOf p n = ltb (first p 0 n) n
+anyOf p n = whereFound (firstOf p n) (λ _. true) false
 
 unfoldable pub every : (ℕ → Bool) → ℕ → Bool
 every p n = not (anyOf (λ s. not (p s)) n)
 
 -- ---- some
-pub some-at : (p : ℕ → Bool) (n s : ℕ) → s < n → p s ≡ true → anyOf p n ≡ true
+-- by the first index, as a loop finds it
+any-of : (p : ℕ → Bool) (n : ℕ) → anyOf p n ≡ ltb (first p 0 n) n
 unfolding anyOf
+any-of p n =
+    ⊎-elim
+    (λ (t : ltb (first p 0 n) n ≡ true). rw (first-of p n, t))
+    (λ (f : ltb (first p 0 n) n ≡ false). rw (first-of p n, f))
+    (cases (ltb (first p 0 n) n))
+
+pub some-at : (p : ℕ → Bool) (n s : ℕ) → s < n → p s ≡ true → anyOf p n ≡ true
 some-at p n s h t =
     ⊎-elim
-    (λ (y : ltb (first p 0 n) n ≡ true). y)
+    (λ (y : ltb (first p 0 n) n ≡ true). any-of p n ∙ y)
     (λ (f : ltb (first p 0 n) n ≡ false).
     never (p s) t (first-before p n 0 s (omega arith) (omega (arith, ltb-false (first p 0 n) n f))))
     (cases (ltb (first p 0 n) n))
@@ -32,9 +40,8 @@ pub record Some (p : ℕ → Bool) (n : ℕ) : Type 0 where
   pub passes : p at ≡ true
 
 pub some-one : (p : ℕ → Bool) (n : ℕ) → anyOf p n ≡ true → Some p n
-unfolding anyOf
 some-one p n t =
-    let h : first p 0 n < n = ltb-true _ _ t in
+    let h : first p 0 n < n = ltb-true _ _ (sym (any-of p n) ∙ t) in
     record { at = first p 0 n; below = h; passes = first-at p n 0 (omega arith) }
 
 pub some-none : (p : ℕ → Bool) (n : ℕ) → anyOf p n ≡ false → (s : ℕ) → s < n → p s ≡ false
@@ -50,16 +57,14 @@ none-some p n h =
 
 pub some-same : (p q : ℕ → Bool) (n : ℕ) → ((s : ℕ) → s < n → p s ≡ q s) → anyOf p n ≡ anyOf q n
 unfolding anyOf
-some-same p q n h = rw (first-same p q n 0 (λ j l u. h j (omega arith)))
+some-same p q n h = rw (firstOf-same p q n h)
 
 -- a loop's two answers
 pub some-hit : {p : ℕ → Bool} {n i : ℕ} {r : Bool} → Sought p n i → i < n → r ≡ p i → r ≡ true → true ≡ anyOf p n
-unfolding anyOf
-some-hit {p} {n} {i} s h e f = rw (sought-hit s h e f, lt-ltb i n h)
+some-hit {p} {n} {i} s h e f = rw (any-of p n, sought-hit s h e f, lt-ltb i n h)
 
 pub some-end : {p : ℕ → Bool} {n i : ℕ} → Sought p n i → n ≤ i → false ≡ anyOf p n
-unfolding anyOf
-some-end {p} {n} {i} s h = rw (sought-end s h, le-ltb n n (omega arith))
+some-end {p} {n} {i} s h = rw (any-of p n, sought-end s h, le-ltb n n (omega arith))
 
 -- ---- every
 pub every-at : (p : ℕ → Bool) (n : ℕ) → every p n ≡ true → (s : ℕ) → s < n → p s ≡ true

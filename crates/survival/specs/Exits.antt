@@ -16,8 +16,8 @@ use Rattle.chains.specs.Chains.{spot, Under}
 use Rattle.chains.specs.Requires.{Spots, LinkPlace}
 use Rattle.chains.specs.Linking.{Linking, linking-start, linking-next, linking-place, linking-end}
 use Rattle.chains.specs.Chased.{Chased, chased-top, chased-slot, walks}
-use Rattle.survival.specs.Survivors.{kept, beats, beaten, wins, survives, keptAnti, survivor, survivorCount}
-use Rattle.survival.specs.Requires.{Headers, Marked, uids, UidsUnlinked, UidsLinked, UidsLinkedAt, header-in, uids-small, uids-large}
+use Rattle.survival.specs.Survivors.{kept, beats, wins, survives, survivor, survivorCount}
+use Rattle.survival.specs.Requires.{beaten, keptAnti, Headers, Marked, uids, UidsUnlinked, UidsLinked, UidsLinkedAt, header-in, uids-small, uids-large}
 use Rattle.survival.specs.Laws.{flag-is, uid-at}
 use Rattle.survival.specs.Flagging.{Flagging, flagging-start, flagging-next, flagging-end}
 
@@ -65,11 +65,11 @@ module _ (c : ℕ) (l : List ℕ) (n s : ℕ) {h : Header} {p : Bool} (at : h �
 
     module _ {b : Bool} (kt : k ≡ true) (bt : b ≡ beaten c (header l) n h) where
       pub survives-beaten : b ≡ true → false ≡ survives c (header l) n s
-      unfolding survives wins
+      unfolding survives wins beaten
       survives-beaten e = rw (← at, ← pl, pt, ← kp, kt, ← bt, e)
 
       pub survives-yes : b ≡ false → true ≡ survives c (header l) n s
-      unfolding survives wins
+      unfolding survives wins beaten
       survives-yes e = rw (← at, ← pl, pt, ← kp, kt, ← bt, e)
 
 -- ---- the flags, and how many are set

@@ -1,15 +1,18 @@
--- What functions inside require: an image's headers, the survivors' flags beside it, and its slots chained by their uids.
+-- What contracts inside are about: what is asked of a header; an image's headers, the survivors' flags beside it, and its slots chained by their uids.
 use Prim.Native.Nat.{ℕ, _+_, _*_, _≤_, _<_}
 use mathlib.Core.Path.{_≡_}
-use mathlib.Core.Bool.{Bool, false}
+use mathlib.Core.Bool.{Bool, false, _&&_}
 use mathlib.Core.List.{List}
 use lib.ListN.{length, getD, replicate}
+use lib.Dec.{eqb}
 use native.Mathlib.Omega.{arith}
+use Rattle.search.specs.Some.{anyOf}
+use Rattle.image.specs.declared.header.Header.{Header}
 use Rattle.image.specs.Layout.{mostSlots, headerWords, header}
 use Rattle.image.specs.Requires.{Sized, Slot, HeaderFits, slot}
 use Rattle.chains.specs.Chains.{Linked}
 use Rattle.chains.specs.Requires.{Room, room-small, room-large}
-use Rattle.survival.specs.Survivors.{survivor}
+use Rattle.survival.specs.Survivors.{kept, beats, survivor}
 
 -- an image's headers, and one of them
 pub record Headers (l : List ℕ) (n : ℕ) : Type 0 where
@@ -19,6 +22,13 @@ pub record Headers (l : List ℕ) (n : ℕ) : Type 0 where
 pub record HeaderOf (l : List ℕ) (n s : ℕ) : Type 0 where
   pub headers : Headers l n
   pub within : s < n
+
+-- ---- what is asked of a header: does one of the table beat it, is it a kept DELETE?
+unfoldable pub beaten : ℕ → (ℕ → Header) → ℕ → Header → Bool
+beaten c hs n h = anyOf (λ t. beats c h (hs t)) n
+
+unfoldable pub keptAnti : ℕ → Header → Bool
+keptAnti c h = kept c h && eqb (h .kind) 3
 
 -- ---- flags: slot s's flag says whether it passes
 pub record Flagged (flags : List Bool) (p : ℕ → Bool) (n : ℕ) : Type 0 where

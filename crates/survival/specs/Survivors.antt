@@ -16,20 +16,13 @@ kept c h = filledKind (h .kind) && leb (h .epoch + 2) c
 unfoldable pub beats : ℕ → Header → Header → Bool
 beats c h g = kept c g && (eqb (g .uid) (h .uid) && ltb (h .epoch) (g .epoch))
 
-unfoldable pub beaten : ℕ → (ℕ → Header) → ℕ → Header → Bool
-beaten c hs n h = anyOf (λ t. beats c h (hs t)) n
-
 -- "Of kept slots with one uid the largest label wins;"
 unfoldable pub wins : ℕ → (ℕ → Header) → ℕ → ℕ → Bool
-wins c hs n s = kept c (hs s) && not (beaten c hs n (hs s))
+wins c hs n s = kept c (hs s) && not (anyOf (λ t. beats c (hs s) (hs t)) n)
 
 -- "a winner of kind 1 or 2 survives."
 unfoldable pub survives : ℕ → (ℕ → Header) → ℕ → ℕ → Bool
 survives c hs n s = payloadKind (hs s .kind) && wins c hs n s
-
--- a kept DELETE
-unfoldable pub keptAnti : ℕ → Header → Bool
-keptAnti c h = kept c h && eqb (h .kind) 3
 
 -- the survivors of an image of n slots
 unfoldable pub survivor : List ℕ → ℕ → ℕ → Bool

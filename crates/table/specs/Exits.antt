@@ -12,7 +12,7 @@ use native.Mathlib.Nat.{eq-or-lt-of-le}
 use mir.Val.{Fits}
 use mir.Syntax.{w64}
 use Rattle.search.specs.Bools.{cases}
-use Rattle.search.specs.First.{first, firstOf, loops as firsts}
+use Rattle.search.specs.First.{first, firstOf, first-of, loops as firsts}
 use Rattle.search.specs.Some.{anyOf, some-at, none-some}
 use Rattle.search.specs.Count.{count}
 use Rattle.search.specs.Ring.{firstRound, ring-ahead, ring-round, round-found, round-one, round-another, round-alone, rounds}
@@ -172,12 +172,12 @@ module _ (z : Sizes) (tb : Table) (name : Name) (e : ℕ) {s live : ℕ} (y : As
       u ∙ b
 
   pub lookup-live : z .n ≤ s → live < z .n → Live live ≡ lookup z tb name e
-  unfolding lookup liveSlot firstOf
-  lookup-live h l = rw (none-newer h, live-is l, lt-ltb live (z .n) l)
+  unfolding lookup liveSlot
+  lookup-live h l = rw (none-newer h, first-of (liveAt z tb name) (z .n), live-is l, lt-ltb live (z .n) l)
 
   pub lookup-absent : z .n ≤ s → z .n ≤ live → Absent ≡ lookup z tb name e
-  unfolding lookup liveSlot firstOf
-  lookup-absent h l = rw (none-newer h, none-live h l, le-ltb (z .n) (z .n) (omega arith))
+  unfolding lookup liveSlot
+  lookup-absent h l = rw (none-newer h, first-of (liveAt z tb name) (z .n), none-live h l, le-ltb (z .n) (z .n) (omega arith))
 
 -- ---- free slots
 module _ (wk : List ℕ) (s : ℕ) {h : Header} {f : Bool} (at : h ≡ header wk s) (fl : f ≡ filledKind (h .kind)) where

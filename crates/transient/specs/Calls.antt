@@ -20,12 +20,10 @@ changed r wk tr = record { reply = r; table = table wk tr }
 abbrev pub refused : Refusal → Table → Changed
 refused r tb = record { reply = Refused r; table = tb }
 
-abbrev pub inStore : Store → Changed → Outcome Check
-inStore st ch = outcome (ch .reply) (ch .table .working) (st .persistent) (ch .table .transient)
 
 -- a call: refusals 1 and 2, then its own part, which is told the sizes
 abbrev pub onStore : Store → (Sizes → Table → Changed) → Outcome Check
-onStore st call = afterCheck (entryCheck st) Refused st (inStore st (call (sizesOf (tableOf st)) (tableOf st)))
+onStore st call = let ch = call (sizesOf (tableOf st)) (tableOf st) in afterCheck (entryCheck st) Refused st (outcome (ch .reply) (ch .table .working) (st .persistent) (ch .table .transient))
 
 -- the reply's number: 0 for accepted
 abbrev pub checkNumber : Check → ℕ

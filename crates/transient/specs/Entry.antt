@@ -17,28 +17,16 @@ use Rattle.transient.specs.Store.{Store, tableOf, sizesOf}
 unfoldable pub imagesFit : List ℕ → List ℕ → Bool
 imagesFit wk l = shapeOk wk && (shapeOk l && (eqb (slotsOf l) (slotsOf wk) && eqb (widthOf l) (widthOf wk)))
 
-unfoldable pub uidOk : ℕ → Bool
-uidOk u = leb 1 u && leb u (mostNumber + 1)
-
 -- "a note naming a slot not below N, or a next uid outside 1 to 4,000,000,001"
 unfoldable pub notesFit : List ℕ → ℕ → Bool
-notesFit tr n = eqb (note slotsAt tr) n && (ltb (note lastAt tr) n && (ltb (note placeAt tr) n && uidOk (note nextUidAt tr)))
-
-unfoldable pub sizesFit : List ℕ → List ℕ → List ℕ → Bool
-sizesFit wk l tr = imagesFit wk l && (threadsOk (length tr) (slotsOf wk) && notesFit tr (slotsOf wk))
+notesFit tr n = eqb (note slotsAt tr) n && (ltb (note lastAt tr) n && (ltb (note placeAt tr) n && (leb 1 (note nextUidAt tr) && leb (note nextUidAt tr) (mostNumber + 1))))
 
 -- 2: "an open epoch that is neither the clock nor one below it"
-unfoldable pub openOk : ℕ → ℕ → Bool
-openOk c e = eqb e 0 || (eqb e c || eqb (e + 1) c)
-
 unfoldable pub opensOk : List ℕ → ℕ → ℕ → Bool
-opensOk tr t c = every (λ thread. openOk c (openEpoch tr thread)) t
+opensOk tr t c = every (λ thread. eqb (openEpoch tr thread) 0 || (eqb (openEpoch tr thread) c || eqb (openEpoch tr thread + 1) c)) t
 
 -- "clock outside 2 to 4,000,000,000; .. the two clocks unequal"
-unfoldable pub clocksFit : List ℕ → List ℕ → List ℕ → ℕ → Bool
-clocksFit wk l tr t = clockOk (clockOf wk) && (eqb (clockOf l) (clockOf wk) && opensOk tr t (clockOf wk))
-
 unfoldable pub entryCheck : Store → Check
 entryCheck st =
-    refuse (not (sizesFit (st .working) (st .persistent) (st .transient))) BadSizes
-    (refuse (not (clocksFit (st .working) (st .persistent) (st .transient) (sizesOf (tableOf st) .t))) BadClock Accepted)
+    refuse (not (imagesFit (st .working) (st .persistent) && (threadsOk (length (st .transient)) (slotsOf (st .working)) && notesFit (st .transient) (slotsOf (st .working))))) BadSizes
+    (refuse (not (clockOk (clockOf (st .working)) && (eqb (clockOf (st .persistent)) (clockOf (st .working)) && opensOk (st .transient) (sizesOf (tableOf st) .t) (clockOf (st .working))))) BadClock Accepted)

@@ -20,8 +20,8 @@ use Rattle.image.specs.Storing.{storings}
 use Rattle.transient.specs.declared.sizes.Sizes.{Sizes}
 use Rattle.transient.specs.Store.{store, table, sizesOf}
 use Rattle.transient.specs.Layout.{slotsAt, lastAt, nextUidAt, phaseAt, placeAt, headWords, openAt, retiredAt, listBase, waitingAt, threadsOf, threadsOk, note, openEpoch, isWaiting, setLast, setNextUid, setOpen, setRetired, setWaiting, setPlace, emptied, blank}
-use Rattle.transient.specs.Entry.{imagesFit, uidOk, notesFit, sizesFit, openOk, opensOk, clocksFit, entryCheck}
-use Rattle.transient.specs.Requires.{Based, ThreadRoom, Notes, Sizable, Paired, sizesAlike, Threads, Fitting, requires-laws}
+use Rattle.transient.specs.Entry.{imagesFit, notesFit, opensOk, entryCheck}
+use Rattle.transient.specs.Requires.{Based, ThreadRoom, Notes, Sizable, Paired, sizesAlike, uidOk, sizesFit, openOk, clocksFit, Threads, Fitting, requires-laws}
 use Rattle.transient.specs.Laws.{threads-head}
 use Rattle.transient.specs.Clearing.{clearings}
 use Rattle.transient.specs.Passed.{sizing, sizes-t}
@@ -174,7 +174,7 @@ module _ (tr : List ℕ) (n : ℕ) {d : ℕ} (sl : d ≡ note slotsAt tr) where
       notes-place k = rw (← sl, eq-eqb d n same, lt-ltb (note lastAt tr) n (omega arith), le-ltb (note placeAt tr) n (omega arith))
 
       pub notes-uid : {u : ℕ} {r : Bool} → b < n → u ≡ note nextUidAt tr → r ≡ uidOk u → r ≡ notesFit tr n
-      unfolding notesFit
+      unfolding notesFit uidOk
       notes-uid k e q = rw (← sl, eq-eqb d n same, lt-ltb (note lastAt tr) n (omega arith), lt-ltb (note placeAt tr) n (omega arith), ← e) q
 
 module _ (u : ℕ) where
@@ -236,7 +236,7 @@ pub held-sure : {p : ℕ → Bool} {n i : ℕ} → Held p n i → i < n → true
 held-sure z h e = held-next z h e refl
 
 pub opens-is : (tr : List ℕ) (t c : ℕ) {r : Bool} → r ≡ every (λ thread. openOk c (openEpoch tr thread)) t → r ≡ opensOk tr t c
-unfolding opensOk
+unfolding opensOk openOk
 opens-is tr t c e = e
 
 module _ (wk l tr : List ℕ) (t : ℕ) {c : ℕ} {k : Bool} (at : c ≡ clockOf wk) (ck : k ≡ clockOk c) where
@@ -254,7 +254,7 @@ module _ (wk l tr : List ℕ) (t : ℕ) {c : ℕ} {k : Bool} (at : c ≡ clockOf
 
 module _ (wk l tr : List ℕ) {s : Bool} (sf : s ≡ sizesFit wk l tr) where
   pub entry-sizes : s ≡ false → Refused BadSizes ≡ entryCheck (store wk l tr)
-  unfolding entryCheck
+  unfolding entryCheck sizesFit
   entry-sizes e = rw (← sf, e)
 
   module _ (st : s ≡ true) where
@@ -275,11 +275,11 @@ module _ (wk l tr : List ℕ) {s : Bool} (sf : s ≡ sizesFit wk l tr) where
 
         module _ {k : Bool} (ck : k ≡ clocksFit wk l tr t) where
           pub entry-clock : k ≡ false → Refused BadClock ≡ entryCheck (store wk l tr)
-          unfolding entryCheck
+          unfolding entryCheck sizesFit clocksFit
           entry-clock e = let q : clocksFit wk l tr (sizesOf (table wk tr) .t) ≡ false = rw (sizes-t wk tr, ← at, ← ts) (sym ck ∙ e) in rw (← sf, st, q)
 
           pub entry-fine : k ≡ true → Accepted ≡ entryCheck (store wk l tr)
-          unfolding entryCheck
+          unfolding entryCheck sizesFit clocksFit
           entry-fine e = let q : clocksFit wk l tr (sizesOf (table wk tr) .t) ≡ true = rw (sizes-t wk tr, ← at, ← ts) (sym ck ∙ e) in rw (← sf, st, q)
 
 pub ruleset laws = (tests, requires-laws, storings, clearings, threads-wrap, sizable-room, sizes-made, blank-set, based-even, based-odd, last-stored, uid-stored, place-stored, open-stored, retired-stored, waiting-stored, waiting-is, list-room, list-emptied)

@@ -18,10 +18,10 @@ use Rattle.image.specs.Requires.{Sized}
 use Rattle.image.specs.Laws.{shaped}
 use Rattle.transient.specs.declared.sizes.Sizes.{Sizes}
 use Rattle.transient.specs.Layout.{threadsOf, threadsOk, note, slotsAt, lastAt, nextUidAt, placeAt}
-use Rattle.transient.specs.Store.{Table, store, table, sizesOf, outcome}
-use Rattle.transient.specs.Entry.{imagesFit, uidOk, notesFit, sizesFit, clocksFit, entryCheck}
-use Rattle.transient.specs.Calls.{Changed, changed, inStore, onStore}
-use Rattle.transient.specs.Requires.{Notes, Sizable, Entered, EnteredWith}
+use Rattle.transient.specs.Store.{Store, Table, store, table, sizesOf, Outcome, outcome}
+use Rattle.transient.specs.Entry.{imagesFit, notesFit, entryCheck}
+use Rattle.transient.specs.Calls.{Changed, changed, onStore}
+use Rattle.transient.specs.Requires.{uidOk, sizesFit, clocksFit, Notes, Sizable, Entered, EnteredWith}
 
 pub sizes-t : (wk tr : List ℕ) → sizesOf (table wk tr) .t ≡ threadsOf (length tr) (slotsOf wk)
 unfolding sizesOf
@@ -79,7 +79,7 @@ unfolding clocksFit
 clocks-range wk l tr t e = clock-range (clockOf wk) (and-left (clockOk (clockOf wk)) _ e)
 
 pub entry-with : (wk l tr : List ℕ) → entryCheck (store wk l tr) ≡ Accepted → EnteredWith wk l tr (sizesOf (table wk tr))
-unfolding entryCheck
+unfolding entryCheck sizesFit clocksFit
 entry-with wk l tr a =
     let t = sizesOf (table wk tr) .t in
     let first = not-refused (not (sizesFit wk l tr)) BadSizes (refuse (not (clocksFit wk l tr t)) BadClock Accepted) a in
@@ -111,6 +111,10 @@ sized-entered y e = rw e y
 
 pub sized-with : {wk l tr : List ℕ} {z : Sizes} → EnteredWith wk l tr (sizesOf (table wk tr)) → z ≡ sizesOf (table wk tr) → EnteredWith wk l tr z
 sized-with y e = rw e y
+
+-- what the call's own part made, beside the persistent image
+abbrev pub inStore : Store → Changed → Outcome Check
+inStore st ch = outcome (ch .reply) (ch .table .working) (st .persistent) (ch .table .transient)
 
 module _ (wk l tr : List ℕ) {k : Check} (c : k ≡ entryCheck (store wk l tr)) where
   pub entry-entered : k ≡ Accepted → Entered wk tr (sizesOf (table wk tr))

@@ -1,15 +1,16 @@
 -- What functions inside require: notes of these sizes, a slot or a thread of them, and what refusals 1 and 2 leave.
 use Prim.Native.Nat.{ℕ, _+_, _*_, _≤_, _<_, _^_}
 use mathlib.Core.Path.{_≡_, _∙_}
-use mathlib.Core.Bool.{Bool, _&&_}
+use mathlib.Core.Bool.{Bool, _&&_, _||_}
 use mathlib.Core.List.{List}
 use lib.ListN.{length}
-use lib.Dec.{eqb}
+use lib.Dec.{leb, eqb}
 use native.Mathlib.Omega.{arith}
-use Rattle.image.specs.Layout.{mostSlots, mostNumber, slotsOf, widthOf, clockOf}
+use Rattle.image.specs.Layout.{mostSlots, mostNumber, slotsOf, widthOf, clockOf, clockOk}
 use Rattle.image.specs.Requires.{Sized, Slot, HeaderFits, slot, header-fits}
 use Rattle.transient.specs.declared.sizes.Sizes.{Sizes}
-use Rattle.transient.specs.Layout.{headWords, listBase, transientWords, note, lastAt, nextUidAt, placeAt}
+use Rattle.transient.specs.Layout.{headWords, listBase, transientWords, threadsOk, note, lastAt, nextUidAt, placeAt}
+use Rattle.transient.specs.Entry.{imagesFit, notesFit, opensOk}
 
 -- ---- the notes alone
 pub record InReach (n t : ℕ) : Type 0 where
@@ -56,6 +57,20 @@ pub record Paired (wk l : List ℕ) : Type 0 where
 
 unfoldable pub sizesAlike : List ℕ → List ℕ → Bool
 sizesAlike wk l = eqb (slotsOf l) (slotsOf wk) && eqb (widthOf l) (widthOf wk)
+
+-- the parts of refusal 1, in the words of `notesFit` and `entryCheck`
+unfoldable pub uidOk : ℕ → Bool
+uidOk u = leb 1 u && leb u (mostNumber + 1)
+
+unfoldable pub sizesFit : List ℕ → List ℕ → List ℕ → Bool
+sizesFit wk l tr = imagesFit wk l && (threadsOk (length tr) (slotsOf wk) && notesFit tr (slotsOf wk))
+
+-- of refusal 2, in the words of `opensOk` and `entryCheck`
+unfoldable pub openOk : ℕ → ℕ → Bool
+openOk c e = eqb e 0 || (eqb e c || eqb (e + 1) c)
+
+unfoldable pub clocksFit : List ℕ → List ℕ → List ℕ → ℕ → Bool
+clocksFit wk l tr t = clockOk (clockOf wk) && (eqb (clockOf l) (clockOf wk) && opensOk tr t (clockOf wk))
 
 pub record Threads (tr : List ℕ) (t : ℕ) : Type 0 where
   pub room : headWords + t ≤ length tr

@@ -5,9 +5,9 @@ ghost use mathlib.Core.Path.{_≡_};
 ghost use Prim.Native.Nat.{_≤_};
 ghost use lib.ListN.{length};
 ghost use Rattle.transient.specs.Store.{store};
-ghost use Rattle.transient.specs.Entry.{imagesFit, uidOk, notesFit, sizesFit, openOk, opensOk, clocksFit, entryCheck};
+ghost use Rattle.transient.specs.Entry.{imagesFit, notesFit, opensOk, entryCheck};
 ghost use Rattle.transient.specs.Layout.{headWords};
-ghost use Rattle.transient.specs.Requires.{Paired, sizesAlike, Threads, Fitting};
+ghost use Rattle.transient.specs.Requires.{Paired, sizesAlike, uidOk, sizesFit, openOk, clocksFit, Threads, Fitting};
 
 // Do two images say the same sizes?
 fn alike(working: &[u32], persistent: &[u32]) -> bool

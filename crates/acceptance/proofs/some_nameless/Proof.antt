@@ -3,7 +3,7 @@ use borrow.Author.Needs.{needs}
 use Rattle.acceptance.specs.Exits.{laws}
 use Prim.Native.Nat.{_-_}
 use Rattle.search.specs.First.{Sought}
-use Rattle.acceptance.specs.Accept.{nameless}
+use Rattle.acceptance.specs.Requires.{nameless}
 use Rattle.acceptance.proofs.some_nameless.Statement.{statement}
 use Rattle.acceptance.proofs.some_nameless.Tie as tie
 

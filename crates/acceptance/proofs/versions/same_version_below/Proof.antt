@@ -3,7 +3,7 @@ use borrow.Author.Needs.{needs}
 use Rattle.acceptance.specs.Exits.{version-laws}
 use Rattle.chains.specs.Chased.{Chased}
 use Rattle.survival.specs.Requires.{uids}
-use Rattle.acceptance.specs.Accept.{versionIn}
+use Rattle.acceptance.specs.Requires.{versionIn}
 use Rattle.acceptance.proofs.versions.same_version_below.Statement.{statement}
 use Rattle.acceptance.proofs.versions.same_version_below.Tie as tie
 

@@ -4,7 +4,7 @@ use Rattle.transient.specs.Exits.{laws, entries}
 use Prim.Native.Nat.{_-_}
 use Rattle.search.specs.Some.{Held}
 use Rattle.transient.specs.Layout.{openEpoch}
-use Rattle.transient.specs.Entry.{openOk}
+use Rattle.transient.specs.Requires.{openOk}
 use Rattle.transient.proofs.entry.opens_ok.Statement.{statement}
 use Rattle.transient.proofs.entry.opens_ok.Tie as tie
 
