@@ -10,7 +10,7 @@ use Rattle.reply.specs.declared.Refusal.the-variants.{BadSizes, BadClock, BadSl
 use Rattle.reply.specs.Refusals.{refuse}
 use Rattle.image.specs.declared.header.Header.{Header}
 use Rattle.image.specs.Layout.{mostNumber, filledKind, header, slotsOf, widthOf, clockOf, shapeOk, clockOk}
-use Rattle.image.specs.Name.{Name, nameAt, sameName, unnamed}
+use Rattle.image.specs.Name.{Name, nameAt, sameName}
 use Rattle.survival.specs.Survivors.{kept, survivor}
 
 -- "A free mark is three zeros"
@@ -43,5 +43,5 @@ unfoldable pub imageCheck : List ℕ → Check
 imageCheck l =
     refuse (not (shapeOk l)) BadSizes
     (refuse (not (clockOk (clockOf l))) BadClock
-    (refuse (not (every (λ s. proper (clockOf l) (header l s)) (slotsOf l)) || anyOf (λ s. survivor l (slotsOf l) s && unnamed (nameAt l (slotsOf l) (widthOf l) s)) (slotsOf l)) BadSlot
+    (refuse (not (every (λ s. proper (clockOf l) (header l s)) (slotsOf l)) || anyOf (λ s. survivor l (slotsOf l) s && eqb (nameAt l (slotsOf l) (widthOf l) s) 0) (slotsOf l)) BadSlot
     (refuse (anyOf (versionBelow (clockOf l) (header l)) (slotsOf l) || anyOf (nameBelow l (slotsOf l) (widthOf l)) (slotsOf l)) Duplicate Accepted)))

@@ -84,7 +84,7 @@ proper-every l n e h = rw (← e) h
 -- ---- survivors by name
 module _ (l : List ℕ) (n w s : ℕ) (flags : List Bool) (z : SlotMarked l n w s flags) where
   pub nameless-yes : {k : ℕ} → getD flags s false ≡ true → k ≡ keyAt l n w s → eqb k 0 ≡ nameless l n w s
-  unfolding nameless unnamed nameAt
+  unfolding nameless unnamed nameAt keyAt
   nameless-yes t e = rw (flag-is (z .flagged) (z .slot .within) t, e)
 
   pub nameless-no : getD flags s false ≡ false → false ≡ nameless l n w s
@@ -101,7 +101,7 @@ module _ (l : List ℕ) (n w s : ℕ) (flags : List Bool) (z : SlotMarked l n w 
     as-no t = rw (← same, t) (sym (and-false (survivor l n s)))
 
   pub below-named : {key : ℕ} {r : Bool} → getD flags s false ≡ true → key ≡ keyAt l n w s → r ≡ anyOf (survivesAs l n w (jobName key)) s → r ≡ nameBelow l n w s
-  unfolding nameBelow nameAt
+  unfolding nameBelow nameAt keyAt
   below-named t e h = rw (flag-is (z .flagged) (z .slot .within) t, ← e) h
 
   pub below-gone : getD flags s false ≡ false → false ≡ nameBelow l n w s
@@ -275,7 +275,7 @@ module _ {l : List ℕ} {n w i : ℕ} {heads₀ below₀ heads below : List ℕ}
 -- ---- the walk for a survivor of one name
 -- it has the key of the name
 as-key : (l : List ℕ) (n w : ℕ) (name : Name) (t : ℕ) → survivesAs l n w name t ≡ true → keyAt l n w t ≡ name
-unfolding survivesAs nameAt
+unfolding survivesAs nameAt keyAt
 as-key l n w name t e = same-name (nameAt l n w t) name (and-right (survivor l n t) (sameName (nameAt l n w t) name) e)
 
 pub named-marked : {l : List ℕ} {n w s : ℕ} {flags : List Bool} {below : List ℕ} → KeysAt l n w s flags below → SlotMarked l n w s flags

@@ -14,6 +14,7 @@ use Rattle.reply.specs.declared.Refusal.the-variants.{BadSizes, BadClock, BadSl
 use Rattle.reply.specs.Refusals.{refuse, not-refused, both-accepted}
 use Rattle.image.specs.declared.header.Header.{Header}
 use Rattle.image.specs.Layout.{mostSlots, mostNumber, filledKind, header, slotsOf, widthOf, clockOf, sizesOk, shapeOk, clockOk}
+use Rattle.image.specs.Name.{unnamed}
 use Rattle.image.specs.Requires.{Sized}
 use Rattle.acceptance.specs.Accept.{blankHeader, filledHeader, proper, versionBelow, nameBelow, imageCheck}
 use Rattle.acceptance.specs.Requires.{headCheck, nameless, slotsCheck}
@@ -129,7 +130,7 @@ says-shape l z =
 
 -- .. and back
 pub says-accepted : (l : List ℕ) → Accepts l → imageCheck l ≡ Accepted
-unfolding imageCheck clockOk nameless
+unfolding imageCheck clockOk nameless unnamed
 says-accepted l a =
     let n = slotsOf l in
     let w = widthOf l in

@@ -8,11 +8,11 @@ use lib.Dec.{leb, ltb, eqb}
 use borrow.Author.Tests.{lt-ltb, le-ltb, leb-true, leb-false, eqb-true}
 use native.Mathlib.Omega.{arith}
 use Rattle.search.specs.Bools.{cases, never, refuted, and-right, flag}
-use Rattle.search.specs.Count.{count}
+use Rattle.search.specs.Count.{count, count-more}
 use Rattle.reply.specs.declared.Check.the-variants.{Accepted}
 use Rattle.image.specs.declared.header.Header.{Header}
 use Rattle.image.specs.Layout.{filledKind, payloadKind, header, slotsOf, clockOf}
-use Rattle.survival.specs.Survivors.{kept, wins, survives, survivor}
+use Rattle.survival.specs.Survivors.{kept, survivor}
 use Rattle.acceptance.specs.Accept.{blankHeader, imageCheck}
 use Rattle.acceptance.specs.Sound.{FreeOk, FilledOk, proper-cases, accepted-says}
 use Rattle.classes.specs.declared.Class.{Class}
@@ -94,7 +94,7 @@ unfilled-free h f = rw (f .kind-is)
 module _ (l : List ℕ) (n s : ℕ) where
   -- only a kept slot survives
   unkept-dies : kept (clockOf l) (header l s) ≡ false → survivor l n s ≡ false
-  unfolding survivor survives wins
+  unfolding survivor
   unkept-dies e = rw (e, and-false (payloadKind (header l s .kind)))
 
   sorted-free : FreeOk (header l s) → Sorted l n s
@@ -139,10 +139,6 @@ one-flag (in-free t) = rw (t .free, t .surviving, t .kept, t .new)
 one-flag (in-surviving t) = rw (t .free, t .surviving, t .kept, t .new)
 one-flag (in-kept t) = rw (t .free, t .surviving, t .kept, t .new)
 one-flag (in-new t) = rw (t .free, t .surviving, t .kept, t .new)
-
-count-more : (q : ℕ → Bool) (k : ℕ) → count q (suc k) ≡ count q k + flag (q k)
-unfolding count
-count-more q k = ⊎-elim (λ t. rw t) (λ f. rw f (omega arith)) (cases (q k))
 
 sum-up : (l : List ℕ) (n k : ℕ) → ((s : ℕ) → s < k → Sorted l n s)
     → count (inClass Free l n) k + count (inClass Surviving l n) k + count (inClass Kept l n) k + count (inClass New l n) k ≡ k

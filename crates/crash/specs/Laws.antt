@@ -9,9 +9,12 @@ use lib.Dec.{leb}
 use native.Mathlib.Omega.{arith}
 use native.Mathlib.Decide.{decLe}
 use borrow.Author.Tests.{le-leb, lt-leb}
-use Rattle.image.specs.Name.{Name, name-same, name-other, name-dec}
-use Rattle.crash.specs.Reference.{Jobs, Change, applied, jobsAt}
+use Rattle.image.specs.Name.{Name, sameName, name-same, name-other, name-dec}
+use Rattle.crash.specs.Reference.{Jobs, Change, jobsAt}
 use Rattle.crash.specs.Slots.{Value, UpTo}
+
+abbrev applied : Change → Jobs → Jobs
+applied ch jobs = λ k. cond (sameName k (ch .name)) (ch .value) (jobs k)
 
 -- the last entry changes the jobs last
 jobs-snoc : (e : ℕ) (jobs : Jobs) (row : List Change) (ch : Change)

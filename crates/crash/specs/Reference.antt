@@ -18,10 +18,7 @@ pub record Change : Type 0 where
 abbrev pub Jobs : Type 0
 Jobs = Name → Option (List ℕ)
 
-abbrev pub applied : Change → Jobs → Jobs
-applied ch jobs = λ k. cond (sameName k (ch .name)) (ch .value) (jobs k)
-
 -- the starting jobs changed by the entries of operations whose epoch is at most e, in order
 unfoldable pub jobsAt : ℕ → Jobs → List Change → Jobs
 jobsAt e jobs [] = jobs
-jobsAt e jobs (ch ∷ row) = jobsAt e (cond (leb (ch .epoch) e) (applied ch jobs) jobs) row
+jobsAt e jobs (ch ∷ row) = jobsAt e (cond (leb (ch .epoch) e) (λ k. cond (sameName k (ch .name)) (ch .value) (jobs k)) jobs) row

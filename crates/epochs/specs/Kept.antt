@@ -32,9 +32,9 @@ use Rattle.epochs.specs.declared.Advance.the-variants.{WentOn, Ticked, D
 use Rattle.epochs.specs.declared.Sync.{Sync}
 use Rattle.epochs.specs.declared.Sync.the-variants as sync-reply
 use Rattle.epochs.specs.Advance.{Stepped, reclaimed, contentsFlushed, headerFlushed, ticking, step, noted, advance}
-use Rattle.epochs.specs.Sync.{syncCheck, byReply, syncFrom, mostLines, sync}
+use Rattle.epochs.specs.Sync.{syncCheck, byReply, syncFrom, sync}
 use Rattle.epochs.specs.WriteBack.{writeBack}
-use Rattle.epochs.specs.Stages.{underway, openBelow, heldCheck, advanceSized, advance-is}
+use Rattle.epochs.specs.Stages.{underway, openBelow, heldCheck, advanceSized, advance-is, mostLines}
 use Rattle.epochs.specs.Moved.{notedPlace}
 use Rattle.epochs.specs.Ways.{every-way, nextStep, advance-way, back-way}
 use Rattle.epochs.specs.Left.{step-goes, advance-moves, budget, budget-top, budget-low, budget-on, budget-tick}

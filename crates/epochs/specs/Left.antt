@@ -26,8 +26,7 @@ use Rattle.epochs.specs.declared.Place.{Place}
 use Rattle.epochs.specs.declared.Advance.{Advance}
 use Rattle.epochs.specs.declared.Advance.the-variants.{WentOn, Ticked, Declined}
 use Rattle.epochs.specs.Advance.{idle, reclaimNext, contentsNext, headerNext, clockNext, Stepped, place, passing, reclaimed, contentsFlushed, headerFlushed, ticking, flushFrom, reclaimFrom, step, noted, advance}
-use Rattle.epochs.specs.Sync.{mostLines}
-use Rattle.epochs.specs.Stages.{dueFrom, waitingFrom}
+use Rattle.epochs.specs.Stages.{dueFrom, waitingFrom, mostLines}
 use Rattle.epochs.specs.Moved.{notedPlace}
 use Rattle.epochs.specs.Ways.{nextStep, advance-way}
 use Rattle.epochs.specs.From.{Between, due-between, waiting-between}

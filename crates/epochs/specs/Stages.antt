@@ -1,5 +1,5 @@
 -- The calls cut as the code is cut: what the functions inside answer, and that the calls are made of it.
-use Prim.Native.Nat.{ℕ, _+_, _-_}
+use Prim.Native.Nat.{ℕ, _+_, _*_, _-_}
 use mathlib.Core.Path.{_≡_, refl}
 use mathlib.Core.Bool.{Bool, not, cond, _&&_, _||_}
 use mathlib.Core.List.{List}
@@ -23,6 +23,10 @@ use Rattle.epochs.specs.declared.Advance.{Advance}
 use Rattle.epochs.specs.declared.Advance.the-variants.{Declined}
 use Rattle.epochs.specs.Advance.{reclaimNext, clockNext, place, due, step, noted, advanceCheck, advance}
 use Rattle.epochs.specs.WriteBack.{writeBack}
+
+-- the lines of one advance at most
+abbrev pub mostLines : ℕ → ℕ
+mostLines n = 3 * n + 1
 
 -- two checks in a row: the first that refuses
 two-checks : {A : Type 0} (j k : Check) (decline : Refusal → A) (st : Store) (next : Outcome A)

@@ -41,11 +41,8 @@ syncFrom (suc more) (suc ticks) lines st =
     (λ r s. record { reply = sync-reply.Declined r; store = s }) (advance st .store)
 
 -- an advance stores at most one line for a slot it reclaims, two for one it writes back, and one for the clock
-abbrev pub mostLines : ℕ → ℕ
-mostLines n = 3 * n + 1
-
 unfoldable pub sync : Store → Outcome Sync
-sync st = afterCheck (syncCheck st) sync-reply.Declined st (syncFrom (2 * mostLines (slotsOf (st .working))) 2 0 st)
+sync st = afterCheck (syncCheck st) sync-reply.Declined st (syncFrom (2 * (3 * slotsOf (st .working) + 1)) 2 0 st)
 
 -- the reply as one number: the lines stored, or 2^32 plus the refusal
 abbrev pub syncNumber : Sync → ℕ

@@ -27,8 +27,8 @@ use Rattle.epochs.specs.declared.Advance.the-variants.{WentOn, Ticked, D
 use Rattle.epochs.specs.declared.Sync.{Sync}
 use Rattle.epochs.specs.declared.Sync.the-variants as sync-reply
 use Rattle.epochs.specs.Advance.{advance}
-use Rattle.epochs.specs.Sync.{syncCheck, syncFrom, mostLines, sync}
-use Rattle.epochs.specs.Stages.{anyOpen}
+use Rattle.epochs.specs.Sync.{syncCheck, syncFrom, sync}
+use Rattle.epochs.specs.Stages.{anyOpen, mostLines}
 use Rattle.epochs.specs.Left.{Moves, advance-moves, budget, budget-top, budget-low, budget-on, budget-tick}
 use Rattle.epochs.specs.Requires.{readyCheck}
 

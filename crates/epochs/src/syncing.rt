@@ -9,7 +9,8 @@ ghost use Prim.Native.Nat.{_*_};
 ghost use Rattle.image.specs.Layout.{slotsOf};
 ghost use Rattle.transient.specs.Store.{store, table, sizesOf, outcome};
 ghost use Rattle.transient.specs.Requires.{Entered, EnteredWith};
-ghost use Rattle.epochs.specs.Sync.{syncCheck, syncFrom, mostLines, sync};
+ghost use Rattle.epochs.specs.Sync.{syncCheck, syncFrom, sync};
+ghost use Rattle.epochs.specs.Stages.{mostLines};
 ghost use Rattle.epochs.specs.Requires.{readyCheck};
 
 // Refusals 14 and 15.

@@ -21,7 +21,7 @@ use Rattle.transient.specs.Layout.{threadsOf, threadsOk, note, nextUidAt, phase
 use Rattle.transient.specs.Store.{Store, store, tableOf, sizesOf}
 use Rattle.transient.specs.Requires.{Notes}
 use Rattle.transient.specs.Laws.{threads-head, blank-length, blank-uid, blank-phase, blank-open, blank-retired}
-use Rattle.survival.specs.Survivors.{kept, wins, survives, survivor}
+use Rattle.survival.specs.Survivors.{kept, survivor}
 use Rattle.acceptance.specs.Accept.{blankHeader, proper, versionBelow, imageCheck}
 use Rattle.acceptance.specs.Requires.{sameVersion}
 use Rattle.acceptance.specs.Sound.{Accepts, accepted-says}
@@ -29,10 +29,9 @@ use Rattle.recovery.specs.Steps.{survivor-named, survivors-apart}
 use Rattle.crash.specs.Slots.{Value, Slot, Filled, Proper, Shows}
 use Rattle.crash.specs.Steps.{atRest, Survives, Settled, Start}
 use Rattle.crash.specs.Begin.{start-inv}
-use Rattle.guarantee.specs.Trace.{startOf}
 use Rattle.guarantee.specs.Promise.{jobsOf}
 use Rattle.guarantee.specs.View.{entryOf, slotOf, noSlot, view, progress, view-in, view-out}
-use Rattle.guarantee.specs.Good.{stateOf, Image, Good}
+use Rattle.guarantee.specs.Good.{stateOf, Image, Good, startOf}
 use Rattle.guarantee.specs.Says.{says-filled, proper-says}
 use Rattle.guarantee.specs.Surviving.{survives-at}
 use Rattle.guarantee.specs.JobsOf.{Survivor, jobs-of}
@@ -81,7 +80,7 @@ version-once l ok s t h b k x u e =
 
 -- a survivor is kept
 pub survivor-kept : (l : List ℕ) (n s : ℕ) → survivor l n s ≡ true → kept (clockOf l) (header l s) ≡ true
-unfolding survivor survives wins
+unfolding survivor
 survivor-kept l n s v = and-left (kept (clockOf l) (header l s)) _ (and-right (payloadKind (header l s .kind)) _ v)
 
 -- a free header is proper

@@ -7,7 +7,8 @@ use Rattle.reply.specs.declared.Check.the-variants.{Accepted}
 use Rattle.image.specs.Layout.{slotsOf}
 use Rattle.transient.specs.Store.{Store, tableOf}
 use Rattle.epochs.specs.Advance.{advance}
-use Rattle.epochs.specs.Sync.{syncCheck, byReply, mostLines}
+use Rattle.epochs.specs.Sync.{syncCheck, byReply}
+use Rattle.epochs.specs.Stages.{mostLines}
 use Rattle.epochs.specs.Left.{advance-moves, budget, budget-top, budget-low, budget-on, budget-tick}
 use Rattle.epochs.specs.Kept.{Quiet, check-quiet, quiet-place, Onward, went, ticked, advance-quiet, quiet-back, back-same}
 use Rattle.guarantee.specs.Trace.{Moment, stay, afterLines, afterLine, toldAdvance, afterAdvance, syncing, syncs, through}

@@ -2,7 +2,7 @@
 use Prim.Native.Nat.{ℕ, _+_, _≤_, _<_}
 use mathlib.Core.Path.{_≡_}
 use mathlib.Core.Bool.{false}
-use mathlib.Core.List.{List, List·Memᴰ}
+use mathlib.Core.List.{List, [], List·Memᴰ}
 use Rattle.image.specs.Layout.{mostNumber, slotsOf, widthOf, clockOf}
 use Rattle.image.specs.Requires.{Sized}
 use Rattle.transient.specs.declared.sizes.Sizes.{Sizes}
@@ -12,8 +12,12 @@ use Rattle.transient.specs.Store.{Store}
 use Rattle.crash.specs.Reference.{Jobs}
 use Rattle.crash.specs.Slots.{State, Inv}
 use Rattle.epochs.specs.Stages.{underway}
-use Rattle.guarantee.specs.Trace.{Plain}
+use Rattle.guarantee.specs.Trace.{Plain, plain, Moment}
 use Rattle.guarantee.specs.View.{view, progress}
+
+-- the reference map beside the store that a run begins with
+abbrev pub startOf : Store → Moment
+startOf st = record { store = st; plain = plain (clockOf (st .persistent)) (λ _. 0) [] [] [] }
 
 -- the clock is the reference map's: that both images have it is a line of the invariant
 abbrev pub stateOf : Sizes → Jobs → Store → Plain → State

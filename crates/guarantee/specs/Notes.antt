@@ -6,7 +6,7 @@ use mathlib.Core.Bool.{true}
 use mathlib.Core.Logic.{_≢_}
 use mathlib.Core.List.{List}
 use Rattle.transient.specs.declared.sizes.Sizes.{Sizes}
-use Rattle.transient.specs.Layout.{note, nextUidAt, retiredIn, isWaiting, setNextUid, setRetired, setWaiting}
+use Rattle.transient.specs.Layout.{note, nextUidAt, retiredIn, isWaiting, setNote, setRetired, setWaiting}
 use Rattle.transient.specs.Requires.{Notes, notes-after}
 use Rattle.transient.specs.Laws.{HeadKept, SlotKept, head-then, slot-then, last-head, last-slots, last-uid, uid-head, uid-slots, retired-front, waiting-front, uid-set, retired-same, retired-waiting, retired-aside, waiting-joined, waiting-stays, waiting-retired, waiting-aside}
 use Rattle.table.specs.Fill.{joined, taken}
@@ -61,7 +61,7 @@ module _ {tr : List ℕ} {sz : Sizes} (y : Notes tr sz) (e s : ℕ) (h : s < sz 
         uid = j .uid ∙ last-uid tr sz s;
       }
 
-  pub made-joins : (u : ℕ) → Joined sz tr (setNextUid (taken sz tr e s) u) e s 0 u
+  pub made-joins : (u : ℕ) → Joined sz tr (setNote nextUidAt (taken sz tr e s) u) e s 0 u
   made-joins u =
       let j = taken-joins in
       let kept = uid-slots (taken sz tr e s) sz u in

@@ -1,6 +1,6 @@
 -- Begin and end keep the invariant: they change one thread's open epoch, which no slot sees.
 use Prim.Native.Nat.{ℕ, _+_, _≤_, _<_}
-use mathlib.Core.Bool.{false, not}
+use mathlib.Core.Bool.{false, not, cond}
 use mathlib.Core.Logic.{_≢_, ⊎-elim}
 use mathlib.Core.List.{List, _∷_, List·Memᴰ, List·Memᴰ·cases-cons}
 use lib.Dec.{leb, eqb}
@@ -20,7 +20,7 @@ use Rattle.begin_end.specs.Operation.{begin, end}
 use Rattle.begin_end.specs.Stages.{beginSized, endSized}
 use Rattle.epochs.specs.Stages.{underway}
 use Rattle.crash.specs.Reference.{Jobs}
-use Rattle.guarantee.specs.Trace.{Plain, plain, opening, toldBegin, toldEnd}
+use Rattle.guarantee.specs.Trace.{Plain, plain, toldBegin, toldEnd}
 use Rattle.guarantee.specs.View.{view, same-view}
 use Rattle.guarantee.specs.Good.{Opens, Good}
 use Rattle.guarantee.specs.Changing.{declines-way, way-way, call-way, sizes-is}
@@ -33,7 +33,7 @@ module _ {sz : Sizes} {start : Jobs} {wk l tr : List ℕ} {p : Plain} (thread e 
   tr′ = setOpen tr thread e
 
   abbrev p′ : Plain
-  p′ = plain (p .clock) (opening p thread e) (p .row) ended′ (p .durable)
+  p′ = plain (p .clock) (λ u. cond (eqb u thread) e (p .operation u)) (p .row) ended′ (p .durable)
 
   view-is : view (store wk l tr′) sz (p .clock) ≡ view (store wk l tr) sz (p .clock)
   view-is =

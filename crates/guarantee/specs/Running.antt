@@ -13,11 +13,12 @@ use Rattle.transient.specs.Store.{Store, tableOf, sizesOf}
 use Rattle.epochs.specs.declared.Advance.{Advance}
 use Rattle.epochs.specs.declared.Advance.the-variants.{WentOn, Ticked, Declined}
 use Rattle.epochs.specs.Advance.{advance}
-use Rattle.epochs.specs.Sync.{syncCheck, byReply, mostLines}
+use Rattle.epochs.specs.Sync.{syncCheck, byReply}
+use Rattle.epochs.specs.Stages.{mostLines}
 use Rattle.crash.specs.Reference.{Jobs}
-use Rattle.guarantee.specs.Trace.{Call, begins, ends, news, sets, deletes, reads, advances, syncs, writesBack, Plain, plain, toldAdvance, Moment, startOf, Trace, stay, one, followed, afterAdvance, afterLine, afterLines, syncing, through, run, moments}
+use Rattle.guarantee.specs.Trace.{Call, begins, ends, news, sets, deletes, reads, advances, syncs, writesBack, Plain, plain, toldAdvance, Moment, Trace, stay, one, followed, afterAdvance, afterLine, afterLines, syncing, through, run, moments}
 use Rattle.guarantee.specs.Promise.{jobsOf, Started}
-use Rattle.guarantee.specs.Good.{Good}
+use Rattle.guarantee.specs.Good.{Good, startOf}
 use Rattle.guarantee.specs.Opening.{begin-good, end-good}
 use Rattle.guarantee.specs.Making.{new-good}
 use Rattle.guarantee.specs.Replacing.{set-good, delete-good}

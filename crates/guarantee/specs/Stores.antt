@@ -23,7 +23,8 @@ use Rattle.epochs.specs.declared.Advance.{Advance}
 use Rattle.epochs.specs.declared.Advance.the-variants.{WentOn, Ticked, Declined}
 use Rattle.epochs.specs.Advance.{reclaimed, contentsFlushed, headerFlushed, ticking, step, advance}
 use Rattle.epochs.specs.Ways.{every-way, nextStep, advance-way, back-way}
-use Rattle.epochs.specs.Sync.{syncCheck, byReply, mostLines}
+use Rattle.epochs.specs.Sync.{syncCheck, byReply}
+use Rattle.epochs.specs.Stages.{mostLines}
 use Rattle.epochs.specs.WriteBack.{writeBack}
 use Rattle.guarantee.specs.Changing.{call-way}
 use Rattle.guarantee.specs.Trace.{Call, begins, ends, news, sets, deletes, reads, advances, syncs, writesBack, Moment, Trace, stay, one, followed, afterAdvance, afterLine, afterLines, syncing, through, run}

@@ -12,7 +12,7 @@ use Rattle.search.specs.Some.{some-none, none-some}
 use Rattle.image.specs.Layout.{payloadKind, header, contents, clockOf}
 use Rattle.transient.specs.declared.sizes.Sizes.{Sizes}
 use Rattle.transient.specs.Store.{Store}
-use Rattle.survival.specs.Survivors.{kept, beats, wins, survives, survivor}
+use Rattle.survival.specs.Survivors.{kept, beats, survivor}
 use Rattle.crash.specs.Slots.{Slot, Filled}
 use Rattle.crash.specs.Steps.{Kept, Survives}
 use Rattle.guarantee.specs.View.{view, view-in, view-out}
@@ -50,7 +50,7 @@ module _ (st : Store) (sz : Sizes) (c e : ℕ) (cut : e + 2 ≡ clockOf (st .per
 
   -- a survivor of the table is one of the image
   pub at-survives : (s : ℕ) → Survives e slots s → (s < sz .n) × (survivor l (sz .n) s ≡ true)
-  unfolding survivor survives wins
+  unfolding survivor
   at-survives s v =
       let h = filled-in s (v .kept .filled) in
       let k = rw (view-in st sz c s h) at (v .kept) in
@@ -62,7 +62,7 @@ module _ (st : Store) (sz : Sizes) (c e : ℕ) (cut : e + 2 ≡ clockOf (st .per
   module _ (kinds : (m : ℕ) → m < sz .n → header l m .kind ≤ 3) where
     -- .. and a survivor of the image one of the table
     pub survives-at : (s : ℕ) → s < sz .n → survivor l (sz .n) s ≡ true → Survives e slots s
-    unfolding survivor survives wins beats
+    unfolding survivor beats
     survives-at s h v =
         let is = view-in st sz c s h in
         let p = payloadKind (header l s .kind) in

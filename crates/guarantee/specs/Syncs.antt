@@ -14,7 +14,8 @@ use Rattle.epochs.specs.declared.Advance.the-variants.{WentOn, Ticked, Declined
 use Rattle.epochs.specs.declared.Sync.{Sync}
 use Rattle.epochs.specs.declared.Sync.the-variants as reply
 use Rattle.epochs.specs.Advance.{advance}
-use Rattle.epochs.specs.Sync.{syncCheck, byReply, syncFrom, mostLines, sync}
+use Rattle.epochs.specs.Sync.{syncCheck, byReply, syncFrom, sync}
+use Rattle.epochs.specs.Stages.{mostLines}
 use Rattle.guarantee.specs.Trace.{Moment, Trace, stay, one, followed, afterAdvance, afterLines, toldAdvance, syncing, syncs, through}
 
 -- the trace tr is that of a sync with the answer a

@@ -1,5 +1,5 @@
 -- A run of calls on one store, and beside it the reference map (01: "the plain board"), fed the calls' arguments and replies.
-use Prim.Native.Nat.{ℕ, zero, suc, _*_}
+use Prim.Native.Nat.{ℕ, zero, suc, _+_, _*_}
 use mathlib.Core.Bool.{cond}
 use mathlib.Core.List.{List, [], _∷_, _++_}
 use mathlib.Core.Option.{Option, none, some}
@@ -15,9 +15,8 @@ use Rattle.job_new.specs.New.{newJob}
 use Rattle.job_set.specs.Set.{setJob}
 use Rattle.job_delete.specs.Delete.{deleteJob}
 use Rattle.epochs.specs.declared.Advance.{Advance}
-use Rattle.epochs.specs.declared.Advance.the-variants.{WentOn, Ticked, Declined}
 use Rattle.epochs.specs.Advance.{advance}
-use Rattle.epochs.specs.Sync.{syncCheck, byReply, mostLines}
+use Rattle.epochs.specs.Sync.{syncCheck, byReply}
 use Rattle.epochs.specs.WriteBack.{writeBack}
 use Rattle.crash.specs.Reference.{Change}
 
@@ -47,15 +46,13 @@ pub record Plain : Type 0 where
 abbrev pub plain : ℕ → (ℕ → ℕ) → List Change → List ℕ → List ℕ → Plain
 plain c operation row ended durable = record { clock = c; operation = operation; row = row; ended = ended; durable = durable }
 
-abbrev pub opening : Plain → ℕ → ℕ → ℕ → ℕ
-opening p thread e = λ u. cond (eqb u thread) e (p .operation u)
-
 -- "An accepted begin opens an operation whose epoch is that clock; an accepted end ends it."
 abbrev pub toldBegin : ℕ → Check → Plain → Plain
-toldBegin thread k p = byCheck k (λ _. p) (plain (p .clock) (opening p thread (p .clock)) (p .row) (p .ended) (p .durable))
+toldBegin thread k p = byCheck k (λ _. p) (plain (p .clock) (λ u. cond (eqb u thread) (p .clock) (p .operation u)) (p .row) (p .ended) (p .durable))
 
 abbrev pub toldEnd : ℕ → Check → Plain → Plain
-toldEnd thread k p = byCheck k (λ _. p) (plain (p .clock) (opening p thread 0) (p .row) (p .operation thread ∷ p .ended) (p .durable))
+toldEnd thread k p =
+    byCheck k (λ _. p) (plain (p .clock) (λ u. cond (eqb u thread) 0 (p .operation u)) (p .row) (p .operation thread ∷ p .ended) (p .durable))
 
 -- "An accepted new, set or delete adds its kind, key, value and operation to the row." A delete leaves the key no value.
 abbrev pub toldChange : ℕ → Name → Option (List ℕ) → Check → Plain → Plain
@@ -65,9 +62,7 @@ toldChange thread name v k p =
 
 -- "Ticked, from an advance call or one within a sync, adds 1 to the clock. All else, any refused call too, changes nothing."
 abbrev pub toldAdvance : Advance → Plain → Plain
-toldAdvance WentOn p = p
-toldAdvance Ticked p = plain (suc (p .clock)) (p .operation) (p .row) (p .ended) (p .durable)
-toldAdvance (Declined r) p = p
+toldAdvance r p = byReply r (λ q. q) (λ q. plain (suc (q .clock)) (q .operation) (q .row) (q .ended) (q .durable)) (λ _ q. q) p
 
 -- ---- moments: a store, and the reference map beside it
 pub record Moment : Type 0 where
@@ -77,10 +72,6 @@ pub record Moment : Type 0 where
 -- what a call leaves, the reference map being told its reply
 abbrev pub told : {A : Type 0} → Outcome A → (A → Plain → Plain) → Moment → Moment
 told o tell m = record { store = o .store; plain = tell (o .reply) (m .plain) }
-
--- "Its first call gets what fresh left, or the recover that replied done"
-abbrev pub startOf : Store → Moment
-startOf st = record { store = st; plain = plain (clockOf (st .persistent)) (λ _. 0) [] [] [] }
 
 -- ---- a trace: the moments passed, in order, after each single store into the persistent image; and the last of them
 pub record Trace : Type 0 where
@@ -127,13 +118,15 @@ through (sets thread j) m = one (told (setJob (m .store) thread j) (toldChange t
 through (deletes thread key) m = one (told (deleteJob (m .store) thread key) (toldChange thread (jobName key) none) m)
 through (reads thread key) m = one m
 through advances m = one (afterAdvance m)
-through (syncs lines) m = byCheck (syncCheck (m .store)) (λ _. stay m) (syncing (2 * mostLines (slotsOf (m .store .working))) 2 0 lines m)
+through (syncs lines) m = byCheck (syncCheck (m .store)) (λ _. stay m) (syncing (2 * (3 * slotsOf (m .store .working) + 1)) 2 0 lines m)
 through (writesBack slot code) m = one (afterLine (slot, code) m)
 
 unfoldable pub run : List Call → Moment → Trace
 run [] m = stay m
 run (c ∷ cs) m = followed (through c m) (run cs)
 
+-- "Its first call gets what fresh left, or the recover that replied done", and the plain board's clock is "first the store's".
 -- "A cut falls before, between or after a run's calls": before the first, or at any moment passed
 unfoldable pub moments : Store → List Call → List Moment
-moments st calls = startOf st ∷ run calls (startOf st) .passed
+moments st calls =
+    let start : Moment = record { store = st; plain = plain (clockOf (st .persistent)) (λ _. 0) [] [] [] } in start ∷ run calls start .passed

@@ -17,7 +17,7 @@ use Rattle.image.specs.Layout.{headerOf, imageWords, payloadKind, filledKind, h
 use Rattle.transient.specs.declared.sizes.Sizes.{Sizes}
 use Rattle.transient.specs.Layout.{retiredIn}
 use Rattle.transient.specs.Store.{Table}
-use Rattle.survival.specs.Survivors.{kept, beats, wins, survives, survivor, survivorCount}
+use Rattle.survival.specs.Survivors.{kept, beats, survivor, survivorCount}
 use Rattle.epochs.specs.Advance.{due}
 use Rattle.guarantee.specs.Says.{payload-says}
 
@@ -85,7 +85,7 @@ each P y ys here there x m = ⊎-elim (λ q. rw q here) (there x) (List·Memᴰ�
 
 -- every line marked P
 pub worked : (x : Case) → List·Memᴰ x lines → Says x
-unfolding lines kept filledKind payloadKind header survivor survives wins beats survivorCount anyOf firstOf count
+unfolding lines kept filledKind payloadKind header survivor beats survivorCount anyOf firstOf count
 worked =
     each Says _ _ (λ uid. (refl, refl, refl))
     (each Says _ _ (λ uid. (refl, refl, refl))

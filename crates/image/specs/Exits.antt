@@ -16,7 +16,7 @@ use Rattle.image.specs.Line.{headerLine, contentsLine, clockLine, stored
 use Rattle.image.specs.Name.{jobName, nameAt, sameName}
 use Rattle.image.specs.Requires.{kindAt, epochAt, uidAt, InRange, Slot, SlotOf, Slots, SlotLine, slot, header-fits, slot-of}
 use Rattle.image.specs.Bytes.{wordsOf, Byte, InWords, Decodes, words-at}
-use Rattle.image.specs.Laws.{area-top, sizes-true, shaped, length-contents}
+use Rattle.image.specs.Laws.{area-top, sizes-true, shaped, length-contents, part-is}
 use Rattle.image.specs.Storing.{storings}
 
 -- ---- headers
@@ -53,11 +53,6 @@ pub contents-stored : {l words : List ℕ} {n w s b : ℕ} {l′ : List ℕ} →
 unfolding storeLine
 contents-stored {l} {words} {n} {w} {s} z at e = rw (z .long, ← at) e
 
--- the part of an image that is a slot's contents
-part-is : (l : List ℕ) (n w s : ℕ) {b : ℕ} → b ≡ contentsAt n w s → take (b + w - b) (drop b l) ≡ contents l n w s
-unfolding contents
-part-is l n w s {b} at = let e : b + w - b ≡ w = omega arith in rw (e, at)
-
 pub part-end : {a d : List ℕ} {n w s b : ℕ} → Slots a d n w s → b ≡ contentsAt n w s → b + w ≤ length a
 part-end z e = omega (arith, z .first .room, z .first .sized .long)
 
@@ -73,7 +68,7 @@ part-copied a d n w s e h = h ∙ ap (λ (x : List ℕ). storeLine d (contentsLi
 
 -- ---- names
 pub name-is : (l : List ℕ) (n w s key : ℕ) {k : ℕ} → k ≡ keyAt l n w s → eqb k key ≡ sameName (nameAt l n w s) (jobName key)
-unfolding sameName nameAt
+unfolding sameName nameAt keyAt
 name-is l n w s key e = rw e
 
 -- ---- the clock

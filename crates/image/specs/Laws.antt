@@ -182,6 +182,11 @@ pub length-contents : {l : List ℕ} {n w s : ℕ} → Slot l n w s → length (
 unfolding contents
 length-contents {l} {n} {w} {s} z = simp (length-take, length-drop) (omega arith)
 
+-- the part of an image that is a slot's contents
+pub part-is : (l : List ℕ) (n w s : ℕ) {b : ℕ} → b ≡ contentsAt n w s → take (b + w - b) (drop b l) ≡ contents l n w s
+unfolding contents
+part-is l n w s {b} at = let e : b + w - b ≡ w = omega arith in rw (e, at)
+
 pub contents-word : (l : List ℕ) (n w s j : ℕ) → j < w → getD (contents l n w s) j 0 ≡ getD l (contentsAt n w s + j) 0
 unfolding contents
 contents-word l n w s j h = part-word l (contentsAt n w s) w j h
@@ -241,5 +246,5 @@ value-contents l n w s h =
 
 -- the name of a slot, by its contents
 pub name-contents : (l : List ℕ) (n w s : ℕ) → 1 ≤ w → nameAt l n w s ≡ getD (contents l n w s) 0 0
-unfolding nameAt
+unfolding nameAt keyAt
 name-contents l n w s h = key-contents l n w s h

@@ -4,10 +4,11 @@ use mathlib.Core.Path.{_≡_}
 use mathlib.Core.Logic.{_≢_}
 use mathlib.Core.Bool.{Bool, true, false}
 use mathlib.Core.List.{List}
+use lib.ListN.{getD}
 use lib.Dec.{eqb}
 use native.Mathlib.Decide.{ℕ-discrete}
 use borrow.Author.Tests.{eqb-true, eqb-false, eq-eqb, ne-eqb}
-use Rattle.image.specs.Layout.{keyAt}
+use Rattle.image.specs.Layout.{contentsAt, keyAt}
 
 -- 01: "The board is a map from job number (key)": a job's name is its key
 abbrev pub Name : Type 0
@@ -18,12 +19,11 @@ jobName key = key
 
 -- the name of what a slot holds
 unfoldable pub nameAt : List ℕ → ℕ → ℕ → ℕ → Name
-nameAt l n w s = keyAt l n w s
+nameAt l n w s = getD l (contentsAt n w s) 0
 
 unfoldable pub sameName : Name → Name → Bool
 sameName a b = eqb a b
 
--- "Keys .. are never 0"
 unfoldable pub unnamed : Name → Bool
 unnamed name = eqb name 0
 
@@ -56,5 +56,5 @@ name-dec = ℕ-discrete
 
 -- a key makes the name
 pub name-kept : (l l′ : List ℕ) (n w s : ℕ) → keyAt l′ n w s ≡ keyAt l n w s → nameAt l′ n w s ≡ nameAt l n w s
-unfolding nameAt
+unfolding nameAt keyAt
 name-kept l l′ n w s k = k

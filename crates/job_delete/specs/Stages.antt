@@ -7,7 +7,7 @@ use mathlib.Core.List.{_∷_}
 use lib.ListN.{replicate}
 use lib.Dec.{eqb}
 use Rattle.reply.specs.declared.Check.the-variants.{Accepted}
-use Rattle.reply.specs.declared.Refusal.the-variants.{NoJob}
+use Rattle.reply.specs.declared.Refusal.the-variants.{Newer, NoJob}
 use Rattle.image.specs.Layout.{header, freeHeader, antiHeader}
 use Rattle.image.specs.Line.{headerLine, storeLine}
 use Rattle.image.specs.Name.{jobName}
@@ -16,10 +16,10 @@ use Rattle.transient.specs.Layout.{setWaiting}
 use Rattle.transient.specs.Store.{Table}
 use Rattle.transient.specs.Calls.{Changed, changed, refused}
 use Rattle.table.specs.declared.find.Lookup.{Lookup}
-use Rattle.table.specs.Find.{lookup, room}
+use Rattle.table.specs.Find.{byLookup, lookup, room}
 use Rattle.table.specs.Fill.{joined}
 use Rattle.jobs.specs.Job.{superseded}
-use Rattle.jobs.specs.Way.{wayIn, byWay, byLookup}
+use Rattle.jobs.specs.Way.{wayIn, byWay}
 use Rattle.job_delete.specs.Delete.{deleteAt}
 
 -- an ALLOC labelled e
@@ -42,7 +42,7 @@ unfolding deleteAt freedAt turned covered
 delete-at-is z tb e s key = refl
 
 abbrev pub deleteLooked : Lookup → Sizes → Table → ℕ → ℕ → Changed
-deleteLooked k z tb e key = byLookup k tb (λ s. deleteAt z tb e s key) (refused NoJob tb)
+deleteLooked k z tb e key = byLookup k (refused Newer tb) (λ s. deleteAt z tb e s key) (refused NoJob tb)
 
 unfoldable pub deleteOpen : Sizes → Table → ℕ → ℕ → Changed
 deleteOpen z tb key e = deleteLooked (lookup z tb (jobName key) e) z tb e key

@@ -14,7 +14,7 @@ use Rattle.image.specs.declared.header.Header.{Header}
 use Rattle.image.specs.Layout.{mostNumber, freshHeader}
 use Rattle.image.specs.Name.{jobName}
 use Rattle.transient.specs.declared.sizes.Sizes.{Sizes}
-use Rattle.transient.specs.Layout.{note, nextUidAt, setNextUid}
+use Rattle.transient.specs.Layout.{note, nextUidAt, setNote}
 use Rattle.transient.specs.Store.{Table, store, table, sizesOf, outcome}
 use Rattle.transient.specs.Entry.{entryCheck}
 use Rattle.transient.specs.Calls.{Changed, changed, refused}
@@ -36,7 +36,7 @@ use Rattle.job_new.specs.Requires.{ready-of, ready-entered, ready-placed
 
 module _ (z : Sizes) (tb : Table) (e : ℕ) (j : Job) where
   pub new-done : (s : ℕ) {u : ℕ} {h : Header} {wk a b : List ℕ} → u ≡ note nextUidAt (tb .transient) → h ≡ freshHeader e u
-      → wk ≡ filledSlot z (tb .working) s h (j .key ∷ j .value) → a ≡ taken z (tb .transient) e s → b ≡ setNextUid a (u + 1) → changed Accepted wk b ≡ newAt z tb e s j
+      → wk ≡ filledSlot z (tb .working) s h (j .key ∷ j .value) → a ≡ taken z (tb .transient) e s → b ≡ setNote nextUidAt a (u + 1) → changed Accepted wk b ≡ newAt z tb e s j
   unfolding newAt
   new-done s p q r x y = rw (r, q, y, x, p)
 

@@ -9,7 +9,7 @@ use Rattle.reply.specs.declared.Check.the-variants.{Accepted}
 use Rattle.reply.specs.declared.Refusal.the-variants.{JobExists, NoUid, Full}
 use Rattle.image.specs.Layout.{mostNumber, freshHeader}
 use Rattle.transient.specs.declared.sizes.Sizes.{Sizes}
-use Rattle.transient.specs.Layout.{note, nextUidAt, setNextUid}
+use Rattle.transient.specs.Layout.{note, nextUidAt, setNote}
 use Rattle.transient.specs.Store.{Store, Table, Outcome}
 use Rattle.transient.specs.Calls.{Changed, changed, refused}
 use Rattle.table.specs.Find.{room}
@@ -24,7 +24,7 @@ newAbsent z tb e j =
     cond (ltb mostNumber (note nextUidAt (tb .transient))) (refused NoUid tb)
     (whereFound (room z tb 2)
     (λ s. changed Accepted (filledSlot z (tb .working) s (freshHeader e (note nextUidAt (tb .transient))) (j .key ∷ j .value))
-    (setNextUid (taken z (tb .transient) e s) (note nextUidAt (tb .transient) + 1)))
+    (setNote nextUidAt (taken z (tb .transient) e s) (note nextUidAt (tb .transient) + 1)))
     (refused Full tb))
 
 -- 11: "a live job of that key"

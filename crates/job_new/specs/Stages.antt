@@ -7,18 +7,18 @@ use lib.Dec.{ltb}
 use Rattle.search.specs.declared.Found.{Found}
 use Rattle.search.specs.First.{whereFound}
 use Rattle.reply.specs.declared.Check.the-variants.{Accepted}
-use Rattle.reply.specs.declared.Refusal.the-variants.{JobExists, NoUid, Full}
+use Rattle.reply.specs.declared.Refusal.the-variants.{Newer, JobExists, NoUid, Full}
 use Rattle.image.specs.Layout.{mostNumber, freshHeader}
 use Rattle.image.specs.Name.{jobName}
 use Rattle.transient.specs.declared.sizes.Sizes.{Sizes}
-use Rattle.transient.specs.Layout.{note, nextUidAt, setNextUid}
+use Rattle.transient.specs.Layout.{note, nextUidAt, setNote}
 use Rattle.transient.specs.Store.{Table}
 use Rattle.transient.specs.Calls.{Changed, changed, refused}
 use Rattle.table.specs.declared.find.Lookup.{Lookup}
-use Rattle.table.specs.Find.{lookup, room}
+use Rattle.table.specs.Find.{byLookup, lookup, room}
 use Rattle.table.specs.Fill.{filledSlot, taken}
 use Rattle.jobs.specs.Job.{Job, badJob}
-use Rattle.jobs.specs.Way.{wayIn, byWay, byLookup}
+use Rattle.jobs.specs.Way.{wayIn, byWay}
 use Rattle.job_new.specs.New.{newAbsent}
 
 -- the slot s holds the new job
@@ -26,7 +26,7 @@ unfoldable pub newAt : Sizes → Table → ℕ → ℕ → Job → Changed
 newAt z tb e s j =
     changed Accepted
     (filledSlot z (tb .working) s (freshHeader e (note nextUidAt (tb .transient))) (j .key ∷ j .value))
-    (setNextUid (taken z (tb .transient) e s) (note nextUidAt (tb .transient) + 1))
+    (setNote nextUidAt (taken z (tb .transient) e s) (note nextUidAt (tb .transient) + 1))
 
 abbrev pub newIn : Found → Sizes → Table → ℕ → Job → Changed
 newIn f z tb e j = whereFound f (λ s. newAt z tb e s j) (refused Full tb)
@@ -37,7 +37,7 @@ unfolding newAbsent newAt
 new-absent-is z tb e j = refl
 
 abbrev pub newLooked : Lookup → Sizes → Table → ℕ → Job → Changed
-newLooked k z tb e j = byLookup k tb (λ s. refused JobExists tb) (newAbsent z tb e j)
+newLooked k z tb e j = byLookup k (refused Newer tb) (λ s. refused JobExists tb) (newAbsent z tb e j)
 
 unfoldable pub newOpen : Sizes → Table → Job → ℕ → Changed
 newOpen z tb j e = newLooked (lookup z tb (jobName (j .key)) e) z tb e j

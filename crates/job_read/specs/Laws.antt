@@ -25,7 +25,8 @@ use Rattle.table.specs.Laws.{live-below, lookup-below}
 use Rattle.table.specs.declared.find.Lookup.{Lookup}
 use Rattle.table.specs.declared.find.Lookup.the-variants.{Later, Live, Absent}
 use Rattle.job_read.specs.declared.Reading.the-variants.{Shown, Declined}
-use Rattle.job_read.specs.Read.{readLooked, readSized, readJob}
+use Rattle.job_read.specs.Read.{readSized, readJob}
+use Rattle.job_read.specs.Stages.{readLooked}
 
 module _ (z : Sizes) (tb : Table) (key s : ℕ) where
   found-below : (f : Found) → liveSlot z tb (jobName key) ≡ f → readLooked (lookedUp f) ≡ Shown s → s < z .n

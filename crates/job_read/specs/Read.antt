@@ -13,25 +13,18 @@ use Rattle.transient.specs.declared.sizes.Sizes.{Sizes}
 use Rattle.transient.specs.Layout.{openEpoch}
 use Rattle.transient.specs.Store.{Store, Table, tableOf, sizesOf}
 use Rattle.transient.specs.Entry.{entryCheck}
-use Rattle.table.specs.Find.{liveSlot, lookup}
-use Rattle.table.specs.declared.find.Lookup.{Lookup}
-use Rattle.table.specs.declared.find.Lookup.the-variants.{Later, Live, Absent}
+use Rattle.table.specs.Find.{liveSlot, byLookup, lookup}
+use Rattle.table.specs.declared.find.Lookup.the-variants.{Live, Absent}
 use Rattle.job_read.specs.declared.Reading.{Reading}
 use Rattle.job_read.specs.declared.Reading.the-variants.{Shown, Declined}
 
--- 9; 10: "no live job of that key"
-abbrev pub readLooked : Lookup → Reading
-readLooked Later = Declined Newer
-readLooked (Live s) = Shown s
-readLooked Absent = Declined NoJob
-
--- 5, 8, then 9 and 10; with no operation open refusal 9 is not asked
+-- 5, 8, then 9 and 10: "no live job of that key"; with no operation open refusal 9 is not asked
 unfoldable pub readSized : ℕ → ℕ → Sizes → Table → Reading
 readSized thread key z tb =
     cond (leb (z .t) thread) (Declined NoThread)
     (cond (eqb key 0) (Declined BadArgument)
-    (readLooked (cond (eqb (openEpoch (tb .transient) thread) 0) (whereFound (liveSlot z tb (jobName key)) Live Absent)
-    (lookup z tb (jobName key) (openEpoch (tb .transient) thread)))))
+    (byLookup (cond (eqb (openEpoch (tb .transient) thread) 0) (whereFound (liveSlot z tb (jobName key)) Live Absent)
+    (lookup z tb (jobName key) (openEpoch (tb .transient) thread))) (Declined Newer) Shown (Declined NoJob)))
 
 unfoldable pub readJob : Store → ℕ → ℕ → Reading
 readJob st thread key = byCheck (entryCheck st) Declined (readSized thread key (sizesOf (tableOf st)) (tableOf st))

@@ -5,7 +5,7 @@ use mathlib.Core.Bool.{cond}
 use mathlib.Core.List.{List, _∷_}
 use lib.Dec.{eqb}
 use Rattle.reply.specs.declared.Check.the-variants.{Accepted}
-use Rattle.reply.specs.declared.Refusal.the-variants.{NoJob}
+use Rattle.reply.specs.declared.Refusal.the-variants.{Newer, NoJob}
 use Rattle.image.specs.Layout.{header, updatedHeader}
 use Rattle.image.specs.Name.{jobName}
 use Rattle.transient.specs.declared.sizes.Sizes.{Sizes}
@@ -13,10 +13,10 @@ use Rattle.transient.specs.Layout.{setWaiting}
 use Rattle.transient.specs.Store.{Table}
 use Rattle.transient.specs.Calls.{Changed, changed, refused}
 use Rattle.table.specs.declared.find.Lookup.{Lookup}
-use Rattle.table.specs.Find.{lookup, room}
+use Rattle.table.specs.Find.{byLookup, lookup, room}
 use Rattle.table.specs.Requires.{setValue}
 use Rattle.jobs.specs.Job.{Job, badJob, superseded}
-use Rattle.jobs.specs.Way.{wayIn, byWay, byLookup}
+use Rattle.jobs.specs.Way.{wayIn, byWay}
 use Rattle.job_set.specs.Set.{setAt}
 
 -- in place
@@ -33,7 +33,7 @@ unfolding setAt rewritten updated setValue
 set-at-is z tb e s j = refl
 
 abbrev pub setLooked : Lookup → Sizes → Table → ℕ → Job → Changed
-setLooked k z tb e j = byLookup k tb (λ s. setAt z tb e s j) (refused NoJob tb)
+setLooked k z tb e j = byLookup k (refused Newer tb) (λ s. setAt z tb e s j) (refused NoJob tb)
 
 unfoldable pub setOpened : Sizes → Table → Job → ℕ → Changed
 setOpened z tb j e = setLooked (lookup z tb (jobName (j .key)) e) z tb e j

@@ -10,9 +10,7 @@ use Rattle.transient.specs.declared.sizes.Sizes.{Sizes}
 use Rattle.transient.specs.Layout.{openEpoch}
 use Rattle.transient.specs.Store.{Store, Table, Outcome}
 use Rattle.transient.specs.Calls.{Changed, refused, onStore}
-use Rattle.table.specs.declared.find.Lookup.{Lookup}
-use Rattle.table.specs.declared.find.Lookup.the-variants.{Later, Live, Absent}
-use Rattle.table.specs.Find.{lookup}
+use Rattle.table.specs.Find.{byLookup, lookup}
 use Rattle.jobs.specs.declared.way.Way.{Way}
 use Rattle.jobs.specs.declared.way.Way.the-variants.{Open, Declined}
 
@@ -27,14 +25,8 @@ abbrev pub byWay : Way → Table → (ℕ → Changed) → Changed
 byWay (Open e) tb next = next e
 byWay (Declined r) tb next = refused r tb
 
--- 9; else what the call does with the live slot, or where there is none
-abbrev pub byLookup : Lookup → Table → (ℕ → Changed) → Changed → Changed
-byLookup Later tb live absent = refused Newer tb
-byLookup (Live s) tb live absent = live s
-byLookup Absent tb live absent = absent
-
 -- new, set and delete of a key: refusals 1, 2, 5, 7, 8 and 9, then the call's own, told sizes, table and epoch
 abbrev pub onJob : Store → ℕ → ℕ → (Sizes → Bool) → (Sizes → Table → ℕ → ℕ → Changed) → (Sizes → Table → ℕ → Changed) → Outcome Check
 onJob st thread key bad live absent =
     onStore st (λ z tb. byWay (wayIn z (tb .transient) thread (bad z)) tb
-    (λ e. byLookup (lookup z tb (jobName key) e) tb (live z tb e) (absent z tb e)))
+    (λ e. byLookup (lookup z tb (jobName key) e) (refused Newer tb) (live z tb e) (absent z tb e)))

@@ -8,7 +8,7 @@ use Rattle.text.specs.Text.{ascii, decimal, spaced}
 use Rattle.text.specs.Putting.{Put, Line, put-both, decimal-short, spaced-short, figure-ends, line-done}
 use Rattle.image.specs.Layout.{contentsAt, contents}
 use Rattle.image.specs.Requires.{Slot, SlotOf, slot, slot-of}
-use Rattle.image.specs.Laws.{length-contents}
+use Rattle.image.specs.Laws.{length-contents, part-is}
 use Rattle.survival.specs.Requires.{marks}
 use Rattle.console.specs.Requires.{takings}
 use Rattle.lister.specs.Lines.{headLine, slotLine}
@@ -42,10 +42,6 @@ module _ (clock y : ℕ) {before mid : List ℕ} {k : ℕ} (room : 256 ≤ lengt
       (line-done p z (omega (arith, head-end, p .long)))
 
 -- ---- the line of a slot
-part-is : (l : List ℕ) (n w s : ℕ) {b : ℕ} → b ≡ contentsAt n w s → take (b + w - b) (drop b l) ≡ contents l n w s
-unfolding contents
-part-is l n w s {b} at = let e : b + w - b ≡ w = omega arith in rw (e, at)
-
 module _ {l : List ℕ} {n w s b : ℕ} (z : Slot l n w s) (at : b ≡ contentsAt n w s) where
   pub slot-end : b + w ≤ length l
   slot-end = omega (arith, z .room, z .sized .long)

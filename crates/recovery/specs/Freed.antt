@@ -11,8 +11,8 @@ use Rattle.search.specs.Bools.{never, refuted, same-test, and-left, and-right, 
 use Rattle.search.specs.Some.{anyOf, some-at, some-one, some-none, none-some}
 use Rattle.image.specs.declared.header.Header.{Header}
 use Rattle.image.specs.Layout.{filledKind, payloadKind, freeHeader}
-use Rattle.survival.specs.Survivors.{kept, beats, wins, survives}
-use Rattle.survival.specs.Requires.{keptAnti}
+use Rattle.survival.specs.Survivors.{kept, beats}
+use Rattle.survival.specs.Requires.{keptAnti, wins, survives}
 use Rattle.acceptance.specs.Accept.{blankHeader, proper, versionBelow}
 use Rattle.acceptance.specs.Requires.{sameVersion}
 

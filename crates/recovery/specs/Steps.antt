@@ -22,7 +22,7 @@ use Rattle.image.specs.Name.{Name, Named, nameAt, name-same, unnamed-false, nam
 use Rattle.image.specs.Requires.{header-fits, sized-after}
 use Rattle.image.specs.Laws.{length-store, front-past-header, header-same, header-other, contents-past-header, key-past-header, value-past-header}
 use Rattle.survival.specs.Survivors.{survivor}
-use Rattle.survival.specs.Requires.{keptAnti}
+use Rattle.survival.specs.Requires.{wins, survives, keptAnti}
 use Rattle.acceptance.specs.Accept.{survivesAs, nameBelow, imageCheck}
 use Rattle.acceptance.specs.Requires.{nameless}
 use Rattle.recovery.specs.Recover.{antiAt, stale, nextFreed}
@@ -51,7 +51,7 @@ record Spent (l : List ℕ) (n s : ℕ) : Type 0 where
   covered : Covered (clockOf l) (header l) n s
 
 stale-spent : (l : List ℕ) (n s : ℕ) → First (stale l n) n s → Spent l n s
-unfolding stale filledAt survivor antiAt keptAnti
+unfolding stale filledAt survivor survives wins antiAt keptAnti
 stale-spent l n s f =
     let full = filledKind (header l s .kind) in
     let out = not (survivor l n s) in
@@ -70,7 +70,7 @@ unfolding stale filledAt
 none-stale l n s u f d = not-false (antiAt l s) (rw (f, d) at u)
 
 anti-spent : (l : List ℕ) (n s : ℕ) → ((t : ℕ) → t < n → stale l n t ≡ false) → First (antiAt l) n s → Spent l n s
-unfolding filledAt survivor antiAt keptAnti
+unfolding filledAt survivor survives wins antiAt keptAnti
 anti-spent l n s none f =
     let a = anti-says (clockOf l) (header l s) (f .passes) in
     record {
@@ -98,7 +98,7 @@ module _ (l : List ℕ) (s : ℕ) (ok : imageCheck l ≡ Accepted) (next : nextF
       }
 
   pub step-keeps : SameSurvivors l (storeLine l (headerLine s freeHeader))
-  unfolding survivor
+  unfolding survivor survives wins
   step-keeps =
       let n = slotsOf l in
       let p = next-spent l n s next in
@@ -176,7 +176,7 @@ none-next l n e s h = go (firstOf (stale l n) n) refl
     go Nothing q = (found-nothing (stale l n) n q s h, found-nothing (antiAt l) n (rw q at e) s h)
 
 pub done-survivors : (l : List ℕ) → nextFreed l (slotsOf l) ≡ Nothing → (s : ℕ) → s < slotsOf l → survivor l (slotsOf l) s ≡ filledAt l s
-unfolding survivor filledAt
+unfolding survivor survives wins filledAt
 done-survivors l e s h =
     let n = slotsOf l in
     let none = none-next l n e s h in

@@ -6,7 +6,7 @@ use mathlib.Core.Bool.{Bool, true, false, cond}
 use native.Mathlib.Nat.{eq-or-lt-of-le}
 use native.Mathlib.Numerals.{add-one}
 use native.Mathlib.Omega.{arith}
-use Rattle.search.specs.Bools.{cases}
+use Rattle.search.specs.Bools.{cases, flag}
 
 unfoldable pub count : (ℕ → Bool) → ℕ → ℕ
 count p zero = 0
@@ -38,6 +38,11 @@ module _ (p : ℕ → Bool) where
       let z : count p k ≡ 0 = rw f at e in
       ⊎-elim (λ (q : i ≡ k). rw q f) (λ (l : i < k). count-zero k z i l) (eq-or-lt-of-le (omega arith)))
       (cases (p k))
+
+-- one index more
+pub count-more : (q : ℕ → Bool) (k : ℕ) → count q (suc k) ≡ count q k + flag (q k)
+unfolding count
+count-more q k = ⊎-elim (λ t. rw t) (λ f. rw f (omega arith)) (cases (q k))
 
 -- two tests that agree below k
 pub count-same : (p q : ℕ → Bool) (k : ℕ) → ((i : ℕ) → i < k → p i ≡ q i) → count p k ≡ count q k

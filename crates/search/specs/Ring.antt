@@ -9,7 +9,7 @@ use native.Mathlib.Decide.{decLt, decLe}
 use native.Mathlib.Numerals.{add-one}
 use native.Mathlib.Omega.{arith}
 use Rattle.search.specs.Bools.{cases, never, flag}
-use Rattle.search.specs.Count.{count, count-same, count-zero}
+use Rattle.search.specs.Count.{count, count-more, count-same, count-zero}
 use Rattle.search.specs.First.{whereFound, firstOf, First, found-first, found-nothing, found-cases, found-hit, found-end, Sought, sought-start, sought-next}
 use Rattle.search.specs.declared.Found.{Found}
 use Rattle.search.specs.declared.Found.the-variants.{At, Nothing}
@@ -46,11 +46,7 @@ module _ (n last k : ℕ) where
   ring-next = let e : last + 1 + 1 + k ≡ last + 1 + (k + 1) = omega arith in rw e
 
 -- ---- how many pass
--- one index more; index 0 left out and index n taken in; one that passes; none
-count-more : (q : ℕ → Bool) (k : ℕ) → count q (suc k) ≡ count q k + flag (q k)
-unfolding count
-count-more q k = ⊎-elim (λ t. rw t) (λ f. rw f (omega arith)) (cases (q k))
-
+-- index 0 left out and index n taken in; one that passes; none
 count-turn : (q : ℕ → Bool) (n : ℕ) → count (λ k. q (k + 1)) n + flag (q 0) ≡ count q n + flag (q n)
 unfolding count
 count-turn q zero = refl

@@ -16,8 +16,8 @@ use Rattle.chains.specs.Chains.{spot, Under}
 use Rattle.chains.specs.Requires.{Spots, LinkPlace}
 use Rattle.chains.specs.Linking.{Linking, linking-start, linking-next, linking-place, linking-end}
 use Rattle.chains.specs.Chased.{Chased, chased-top, chased-slot, walks}
-use Rattle.survival.specs.Survivors.{kept, beats, wins, survives, survivor, survivorCount}
-use Rattle.survival.specs.Requires.{beaten, keptAnti, Headers, Marked, uids, UidsUnlinked, UidsLinked, UidsLinkedAt, header-in, uids-small, uids-large}
+use Rattle.survival.specs.Survivors.{kept, beats, survivor, survivorCount}
+use Rattle.survival.specs.Requires.{beaten, keptAnti, Headers, Marked, uids, UidsUnlinked, UidsLinked, UidsLinkedAt, header-in, uids-small, uids-large, wins, survives}
 use Rattle.survival.specs.Laws.{flag-is, uid-at}
 use Rattle.survival.specs.Flagging.{Flagging, flagging-start, flagging-next, flagging-end}
 
@@ -74,7 +74,7 @@ module _ (c : ℕ) (l : List ℕ) (n s : ℕ) {h : Header} {p : Bool} (at : h �
 
 -- ---- the flags, and how many are set
 pub marked-end : {l : List ℕ} {c n i : ℕ} {flags : List Bool} → Headers l n → c ≡ clockOf l → Flagging (survives c (header l) n) n i flags → n ≤ i → Marked l n flags
-unfolding survivor
+unfolding survivor survives wins
 marked-end {l} {c} {n} z e f h =
     let g = flagging-end f h in
     record { headers = z; flagged = record { long = g .long; same = λ s k. g .same s k ∙ ap (λ d. survives d (header l) n s) e } }

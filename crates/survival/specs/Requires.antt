@@ -1,14 +1,14 @@
 -- What contracts inside are about: what is asked of a header; an image's headers, the survivors' flags beside it, and its slots chained by their uids.
 use Prim.Native.Nat.{ℕ, _+_, _*_, _≤_, _<_}
 use mathlib.Core.Path.{_≡_}
-use mathlib.Core.Bool.{Bool, false, _&&_}
+use mathlib.Core.Bool.{Bool, false, not, _&&_}
 use mathlib.Core.List.{List}
 use lib.ListN.{length, getD, replicate}
 use lib.Dec.{eqb}
 use native.Mathlib.Omega.{arith}
 use Rattle.search.specs.Some.{anyOf}
 use Rattle.image.specs.declared.header.Header.{Header}
-use Rattle.image.specs.Layout.{mostSlots, headerWords, header}
+use Rattle.image.specs.Layout.{mostSlots, headerWords, payloadKind, header}
 use Rattle.image.specs.Requires.{Sized, Slot, HeaderFits, slot}
 use Rattle.chains.specs.Chains.{Linked}
 use Rattle.chains.specs.Requires.{Room, room-small, room-large}
@@ -26,6 +26,13 @@ pub record HeaderOf (l : List ℕ) (n s : ℕ) : Type 0 where
 -- ---- what is asked of a header: does one of the table beat it, is it a kept DELETE?
 unfoldable pub beaten : ℕ → (ℕ → Header) → ℕ → Header → Bool
 beaten c hs n h = anyOf (λ t. beats c h (hs t)) n
+
+-- a kept slot of the table that none beats, and one that is a payload
+unfoldable pub wins : ℕ → (ℕ → Header) → ℕ → ℕ → Bool
+wins c hs n s = kept c (hs s) && not (anyOf (λ t. beats c (hs s) (hs t)) n)
+
+unfoldable pub survives : ℕ → (ℕ → Header) → ℕ → ℕ → Bool
+survives c hs n s = payloadKind (hs s .kind) && wins c hs n s
 
 unfoldable pub keptAnti : ℕ → Header → Bool
 keptAnti c h = kept c h && eqb (h .kind) 3

@@ -1,4 +1,4 @@
--- 01, "Recovery": which slots are kept, win and survive. `hs` is the table of headers, `c` the clock, `n` the slots.
+-- 01, "Recovery": which slots are kept, win and survive. `c` is the clock, `n` the number of slots.
 use Prim.Native.Nat.{ℕ, _+_}
 use mathlib.Core.Bool.{Bool, not, _&&_}
 use mathlib.Core.List.{List}
@@ -16,17 +16,10 @@ kept c h = filledKind (h .kind) && leb (h .epoch + 2) c
 unfoldable pub beats : ℕ → Header → Header → Bool
 beats c h g = kept c g && (eqb (g .uid) (h .uid) && ltb (h .epoch) (g .epoch))
 
--- "Of kept slots with one uid the largest label wins;"
-unfoldable pub wins : ℕ → (ℕ → Header) → ℕ → ℕ → Bool
-wins c hs n s = kept c (hs s) && not (anyOf (λ t. beats c (hs s) (hs t)) n)
-
--- "a winner of kind 1 or 2 survives."
-unfoldable pub survives : ℕ → (ℕ → Header) → ℕ → ℕ → Bool
-survives c hs n s = payloadKind (hs s .kind) && wins c hs n s
-
--- the survivors of an image of n slots
+-- "Of kept slots with one uid the largest label wins; a winner of kind 1 or 2 survives.": slot s of an image of n slots
 unfoldable pub survivor : List ℕ → ℕ → ℕ → Bool
-survivor l n s = survives (clockOf l) (header l) n s
+survivor l n s =
+    payloadKind (header l s .kind) && (kept (clockOf l) (header l s) && not (anyOf (λ t. beats (clockOf l) (header l s) (header l t)) n))
 
 unfoldable pub survivorCount : List ℕ → ℕ → ℕ
 survivorCount l n = count (survivor l n) n

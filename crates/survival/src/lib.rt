@@ -3,8 +3,8 @@ use image::header::Header;
 ghost use mathlib.Core.Path.{_≡_};
 ghost use Rattle.image.specs.Layout.{header};
 ghost use Rattle.image.specs.Requires.{HeaderFits};
-ghost use Rattle.survival.specs.Survivors.{kept, beats, survives, survivorCount};
-ghost use Rattle.survival.specs.Requires.{beaten, keptAnti, Headers, Marked, UidsUnlinked, UidsLinked, UidsLinkedAt};
+ghost use Rattle.survival.specs.Survivors.{kept, beats, survivorCount};
+ghost use Rattle.survival.specs.Requires.{beaten, keptAnti, Headers, Marked, UidsUnlinked, UidsLinked, UidsLinkedAt, survives};
 
 pub fn kept(h: Header, c: u32) -> bool
     ensures { λ r. ⌜ r ≡ kept c h ⌝ }

@@ -26,7 +26,7 @@ use Rattle.image.specs.Requires.{Slot, slot-of, slot-header, slot-after}
 use Rattle.image.specs.Laws.{area-top}
 use Rattle.image.specs.Storing.{storing-end}
 use Rattle.transient.specs.declared.sizes.Sizes.{Sizes}
-use Rattle.transient.specs.Layout.{note, lastAt, retiredIn, setLast, setRetired, setWaiting}
+use Rattle.transient.specs.Layout.{note, lastAt, retiredIn, setNote, setRetired, setWaiting}
 use Rattle.transient.specs.Store.{Table, table}
 use Rattle.transient.specs.Requires.{Entered, note-after, note-head, note-slot, shaped-slot, slot-note, slot-working, slot-head, entered-head}
 use Rattle.transient.specs.Clearing.{emptying-start, emptying-next}
@@ -274,7 +274,7 @@ module _ (z : Sizes) (tr : List ℕ) (e s : ℕ) where
   unfolding joined
   joined-done r u = rw (u, r)
 
-  pub taken-done : {m : ℕ} {a b c : List ℕ} → m ≡ s → a ≡ setLast tr m → b ≡ setRetired z a s 0 → c ≡ setWaiting z b e s → c ≡ taken z tr e s
+  pub taken-done : {m : ℕ} {a b c : List ℕ} → m ≡ s → a ≡ setNote lastAt tr m → b ≡ setRetired z a s 0 → c ≡ setWaiting z b e s → c ≡ taken z tr e s
   unfolding taken joined
   taken-done p q r u = rw (u, r, q, p)
 

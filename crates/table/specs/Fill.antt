@@ -4,7 +4,7 @@ use mathlib.Core.List.{List}
 use Rattle.image.specs.declared.header.Header.{Header}
 use Rattle.image.specs.Line.{headerLine, contentsLine, storeLine}
 use Rattle.transient.specs.declared.sizes.Sizes.{Sizes}
-use Rattle.transient.specs.Layout.{setLast, setRetired, setWaiting}
+use Rattle.transient.specs.Layout.{lastAt, setNote, setRetired, setWaiting}
 
 -- a slot's contents and header
 unfoldable pub filledSlot : Sizes → List ℕ → ℕ → Header → List ℕ → List ℕ
@@ -16,4 +16,4 @@ joined z tr e s = setWaiting z (setRetired z tr s 0) e s
 
 -- a slot taken in epoch e: the last one taken, not retired, waiting in e
 unfoldable pub taken : Sizes → List ℕ → ℕ → ℕ → List ℕ
-taken z tr e s = joined z (setLast tr s) e s
+taken z tr e s = joined z (setNote lastAt tr s) e s

@@ -30,6 +30,12 @@ liveAt z tb name s =
 unfoldable pub liveSlot : Sizes → Table → Name → Found
 liveSlot z tb name = firstOf (liveAt z tb name) (z .n)
 
+-- by what a key finds: a later epoch has it, a live slot holds it, or neither
+abbrev pub byLookup : {A : Type 0} → Lookup → A → (ℕ → A) → A → A
+byLookup Later later live absent = later
+byLookup (Live s) later live absent = live s
+byLookup Absent later live absent = absent
+
 -- refusal 9 first, then the live job
 unfoldable pub lookup : Sizes → Table → Name → ℕ → Lookup
 lookup z tb name e = cond (anyOf (newerAt z (tb .working) name e) (z .n)) Later (whereFound (liveSlot z tb name) Live Absent)

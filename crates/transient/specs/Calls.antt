@@ -20,10 +20,11 @@ changed r wk tr = record { reply = r; table = table wk tr }
 abbrev pub refused : Refusal → Table → Changed
 refused r tb = record { reply = Refused r; table = tb }
 
-
 -- a call: refusals 1 and 2, then its own part, which is told the sizes
 abbrev pub onStore : Store → (Sizes → Table → Changed) → Outcome Check
-onStore st call = let ch = call (sizesOf (tableOf st)) (tableOf st) in afterCheck (entryCheck st) Refused st (outcome (ch .reply) (ch .table .working) (st .persistent) (ch .table .transient))
+onStore st call =
+    let ch = call (sizesOf (tableOf st)) (tableOf st) in
+    afterCheck (entryCheck st) Refused st (outcome (ch .reply) (ch .table .working) (st .persistent) (ch .table .transient))
 
 -- the reply's number: 0 for accepted
 abbrev pub checkNumber : Check → ℕ

@@ -19,7 +19,7 @@ use Rattle.image.specs.Laws.{shaped}
 use Rattle.image.specs.Storing.{storings}
 use Rattle.transient.specs.declared.sizes.Sizes.{Sizes}
 use Rattle.transient.specs.Store.{store, table, sizesOf}
-use Rattle.transient.specs.Layout.{slotsAt, lastAt, nextUidAt, phaseAt, placeAt, headWords, openAt, retiredAt, listBase, waitingAt, threadsOf, threadsOk, note, openEpoch, isWaiting, setLast, setNextUid, setOpen, setRetired, setWaiting, setPlace, emptied, blank}
+use Rattle.transient.specs.Layout.{slotsAt, lastAt, nextUidAt, phaseAt, placeAt, headWords, openAt, retiredAt, listBase, waitingAt, threadsOf, threadsOk, note, openEpoch, isWaiting, setNote, setOpen, setRetired, setWaiting, setPlace, emptied, blank}
 use Rattle.transient.specs.Entry.{imagesFit, notesFit, opensOk, entryCheck}
 use Rattle.transient.specs.Requires.{Based, ThreadRoom, Notes, Sizable, Paired, sizesAlike, uidOk, sizesFit, openOk, clocksFit, Threads, Fitting, requires-laws}
 use Rattle.transient.specs.Laws.{threads-head}
@@ -66,12 +66,12 @@ unfolding listBase
 based-odd n e h = record { same = rw (ne-eqb (e % 2) 0 h); top = omega arith }
 
 module _ (tr : List ℕ) where
-  pub last-stored : (s : ℕ) → set tr lastAt s ≡ setLast tr s
-  unfolding setLast
+  pub last-stored : (s : ℕ) → set tr lastAt s ≡ setNote lastAt tr s
+  unfolding setNote
   last-stored s = refl
 
-  pub uid-stored : (u : ℕ) → set tr nextUidAt u ≡ setNextUid tr u
-  unfolding setNextUid
+  pub uid-stored : (u : ℕ) → set tr nextUidAt u ≡ setNote nextUidAt tr u
+  unfolding setNote
   uid-stored u = refl
 
   pub place-stored : (phase slot : ℕ) → set (set tr phaseAt phase) placeAt slot ≡ setPlace tr phase slot

@@ -13,7 +13,7 @@ use native.Mathlib.Decide.{ℕ-discrete, decLt}
 use Rattle.search.specs.Bools.{cases, and-left}
 use Rattle.image.specs.Laws.{length-stored, stored-outside, stored-inside}
 use Rattle.transient.specs.declared.sizes.Sizes.{Sizes}
-use Rattle.transient.specs.Layout.{slotsAt, lastAt, nextUidAt, phaseAt, placeAt, headWords, openAt, retiredAt, listBase, waitingAt, threadsOf, threadsOk, note, openEpoch, retiredIn, isWaiting, setLast, setNextUid, setOpen, setRetired, setWaiting, setPlace, emptied, blank}
+use Rattle.transient.specs.Layout.{slotsAt, lastAt, nextUidAt, phaseAt, placeAt, headWords, openAt, retiredAt, listBase, waitingAt, threadsOf, threadsOk, note, openEpoch, retiredIn, isWaiting, setNote, setOpen, setRetired, setWaiting, setPlace, emptied, blank}
 use Rattle.transient.specs.Requires.{Notes}
 
 -- ---- the two lists
@@ -73,12 +73,12 @@ one-word : (tr : List ℕ) (i v : ℕ) → Only tr (set tr i v) i 1
 one-word tr i v = record { long = length-set tr i v; words = λ j o. getD-set-other tr i j v 0 (λ q. ⊎-elim (λ h. omega arith) (λ h. omega arith) o) }
 
 module _ (tr : List ℕ) where
-  last-only : (s : ℕ) → Only tr (setLast tr s) lastAt 1
-  unfolding setLast
+  last-only : (s : ℕ) → Only tr (setNote lastAt tr s) lastAt 1
+  unfolding setNote
   last-only s = one-word tr lastAt s
 
-  uid-only : (u : ℕ) → Only tr (setNextUid tr u) nextUidAt 1
-  unfolding setNextUid
+  uid-only : (u : ℕ) → Only tr (setNote nextUidAt tr u) nextUidAt 1
+  unfolding setNote
   uid-only u = one-word tr nextUidAt u
 
   open-only : (thread e : ℕ) → Only tr (setOpen tr thread e) (openAt thread) 1
@@ -169,20 +169,20 @@ module _ {tr tr′ : List ℕ} {at k : ℕ} (o : Only tr tr′ at k) where
 -- ---- .. after each writer
 module _ (tr : List ℕ) (z : Sizes) where
   module _ (s : ℕ) where
-    pub last-head : HeadKept z tr (setLast tr s)
+    pub last-head : HeadKept z tr (setNote lastAt tr s)
     last-head = head-kept (last-only tr s) z (inl (omega arith))
 
-    pub last-slots : (m : ℕ) → SlotKept z tr (setLast tr s) m
+    pub last-slots : (m : ℕ) → SlotKept z tr (setNote lastAt tr s) m
     last-slots = slot-kept (last-only tr s) z (omega arith)
 
-    pub last-uid : note nextUidAt (setLast tr s) ≡ note nextUidAt tr
+    pub last-uid : note nextUidAt (setNote lastAt tr s) ≡ note nextUidAt tr
     last-uid = uid-kept (last-only tr s) (inl (omega arith))
 
   module _ (u : ℕ) where
-    pub uid-head : HeadKept z tr (setNextUid tr u)
+    pub uid-head : HeadKept z tr (setNote nextUidAt tr u)
     uid-head = head-kept (uid-only tr u) z (inl (omega arith))
 
-    pub uid-slots : (m : ℕ) → SlotKept z tr (setNextUid tr u) m
+    pub uid-slots : (m : ℕ) → SlotKept z tr (setNote nextUidAt tr u) m
     uid-slots = slot-kept (uid-only tr u) z (omega arith)
 
   module _ (thread e : ℕ) where
@@ -273,8 +273,8 @@ module _ (len n u : ℕ) where
 
 -- ---- each writer's own note
 module _ {tr : List ℕ} {z : Sizes} (y : Notes tr z) where
-  pub uid-set : (u : ℕ) → note nextUidAt (setNextUid tr u) ≡ u
-  unfolding setNextUid
+  pub uid-set : (u : ℕ) → note nextUidAt (setNote nextUidAt tr u) ≡ u
+  unfolding setNote
   uid-set u = getD-set-same tr nextUidAt u 0 (omega (arith, y .long))
 
   pub phase-set : (phase slot : ℕ) → note phaseAt (setPlace tr phase slot) ≡ phase

@@ -70,11 +70,9 @@ unfoldable pub isWaiting : Sizes → List ℕ → ℕ → ℕ → Bool
 isWaiting z tr e s = not (eqb (getD tr (waitingAt z e s) 0) 0)
 
 -- ---- writers
-unfoldable pub setLast : List ℕ → ℕ → List ℕ
-setLast tr s = set tr lastAt s
-
-unfoldable pub setNextUid : List ℕ → ℕ → List ℕ
-setNextUid tr uid = set tr nextUidAt uid
+-- a word of the head, set
+unfoldable pub setNote : ℕ → List ℕ → ℕ → List ℕ
+setNote at tr x = set tr at x
 
 unfoldable pub setPlace : List ℕ → ℕ → ℕ → List ℕ
 setPlace tr phase slot = set (set tr phaseAt phase) placeAt slot

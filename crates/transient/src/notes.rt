@@ -5,7 +5,7 @@ ghost use Prim.Native.Nat.{_+_, _≤_, _<_};
 ghost use lib.ListN.{length, replicate};
 ghost use Rattle.image.specs.Layout.{mostSlots};
 ghost use Rattle.image.specs.Line.{stored};
-ghost use Rattle.transient.specs.Layout.{headWords, transientWords, threadsOf, threadsOk, blank, note, slotsAt, lastAt, nextUidAt, phaseAt, placeAt, openEpoch, retiredIn, isWaiting, setLast, setNextUid, setOpen, setRetired, setWaiting, setPlace, emptied};
+ghost use Rattle.transient.specs.Layout.{headWords, transientWords, threadsOf, threadsOk, blank, note, slotsAt, lastAt, nextUidAt, phaseAt, placeAt, openEpoch, retiredIn, isWaiting, setNote, setOpen, setRetired, setWaiting, setPlace, emptied};
 ghost use Rattle.transient.specs.Requires.{Based, InReach, ThreadRoom, Blanking, Notes, NoteOf, ThreadOf};
 
 // Where the words of the head stand, and how many these are; then come the threads, then the slots.
@@ -109,14 +109,14 @@ pub fn retired_in(transient: &[u32], z: Sizes, s: usize) -> u32
 
 pub fn set_last(transient: &mut [u32], s: u32)
     requires { ⌜ headWords ≤ length (now transient) ⌝ }
-    ensures { λ _. ⌜ now (transient .exit) ≡ setLast (now (transient .entry)) s ⌝ }
+    ensures { λ _. ⌜ now (transient .exit) ≡ setNote lastAt (now (transient .entry)) s ⌝ }
 {
     transient[LAST] = s;
 }
 
 pub fn set_next_uid(transient: &mut [u32], uid: u32)
     requires { ⌜ headWords ≤ length (now transient) ⌝ }
-    ensures { λ _. ⌜ now (transient .exit) ≡ setNextUid (now (transient .entry)) uid ⌝ }
+    ensures { λ _. ⌜ now (transient .exit) ≡ setNote nextUidAt (now (transient .entry)) uid ⌝ }
 {
     transient[NEXT_UID] = uid;
 }

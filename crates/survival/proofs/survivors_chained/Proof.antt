@@ -4,7 +4,7 @@ use Rattle.survival.specs.Exits.{laws, links}
 use Rattle.survival.specs.Flagging.{Flagging}
 use Prim.Native.Nat.{_-_}
 use Rattle.image.specs.Layout.{header}
-use Rattle.survival.specs.Survivors.{survives}
+use Rattle.survival.specs.Requires.{survives}
 use Rattle.survival.proofs.survivors_chained.Statement.{statement}
 use Rattle.survival.proofs.survivors_chained.Tie as tie
 
