@@ -1,5 +1,5 @@
 -- What a check that accepts says of the sizes, and what words the bytes of an image make.
-use Prim.Native.Nat.{ℕ, _/_, _≤_, _<_}
+use Prim.Native.Nat.{ℕ, _/_, _≤_}
 use mathlib.Core.Path.{_≡_, sym, _∙_}
 use mathlib.Core.Bool.{true, false, not}
 use mathlib.Core.Logic.{⊎-elim}
@@ -7,9 +7,7 @@ use mathlib.Core.List.{List}
 use lib.ListN.{length, take}
 use lib.Seq.{length-take-le}
 use borrow.Author.Tests.{not-false}
-use native.Mathlib.Omega.{arith}
 use Rattle.search.specs.Bools.{cases}
-use Rattle.reply.specs.declared.Check.{Check}
 use Rattle.reply.specs.declared.Check.the-variants.{Accepted, Refused}
 use Rattle.reply.specs.declared.Refusal.the-variants.{BadSizes, BadClock}
 use Rattle.reply.specs.Refusals.{refuse, byCheck, not-refused, both-accepted}
@@ -41,9 +39,6 @@ head-sized l a = shaped l (not-false (shapeOk l) (not-refused (not (shapeOk l)) 
 
 pub image-sized : (l : List ℕ) → imageCheck l ≡ Accepted → Sized l (slotsOf l) (widthOf l)
 image-sized l a = head-sized l (both-accepted (headCheck l) (slotsCheck l (slotsOf l) (widthOf l)) (sym (image-is l) ∙ a) .0)
-
-pub image-long : (l : List ℕ) {k : Check} (j : ℕ) → k ≡ imageCheck l → k ≡ Accepted → j < 3 → j < length l
-image-long l j c a h = let z = image-sized l (sym c ∙ a) in omega arith
 
 -- ---- the front of a buffer into which bytes were decoded
 module _ (bytes words : List ℕ) {words′ : List ℕ} (z : Buffered bytes words) (d : words′ ≡ stored words 0 (wordsOf bytes) (length bytes / 4)) where

@@ -1,6 +1,6 @@
 -- The ways out of this crate's functions: a law for each.
-use Prim.Native.Nat.{ℕ, _+_, _≤_, _<_}
-use mathlib.Core.Path.{_≡_, sym, _∙_}
+use Prim.Native.Nat.{ℕ, _+_, _<_}
+use mathlib.Core.Path.{_≡_, _∙_}
 use mathlib.Core.Bool.{Bool, true, false, not, _&&_}
 use mathlib.Core.List.{List}
 use lib.ListN.{getD}
@@ -12,9 +12,8 @@ use Rattle.search.specs.Bools.{tests}
 use Rattle.search.specs.Count.{count, Counted, counted-start, counted-hit, counted-miss, counted-end}
 use Rattle.image.specs.declared.header.Header.{Header}
 use Rattle.image.specs.Layout.{filledKind, header, clockOf}
-use Rattle.survival.specs.Survivors.{kept, survivor}
+use Rattle.survival.specs.Survivors.{kept}
 use Rattle.survival.specs.Requires.{Marked, FlagAt, flag-at, flag-header, flag-of}
-use Rattle.survival.specs.Laws.{flag-is}
 use Rattle.acceptance.specs.Accept.{blankHeader}
 use Rattle.classes.specs.declared.Class.{Class}
 use Rattle.classes.specs.declared.Class.the-variants.{Free, Surviving, Kept, New}

@@ -1,12 +1,12 @@
 -- The ways out of this crate's functions: a law for each.
 use Prim.Native.Nat.{ℕ, _+_, _/_, _≤_}
-use mathlib.Core.Path.{_≡_, refl, sym, ap, _∙_}
+use mathlib.Core.Path.{_≡_, sym, ap, _∙_}
 use mathlib.Core.Bool.{Bool, true, false}
 use mathlib.Core.List.{List, [], _∷_, _++_, append-assoc}
 use lib.ListN.{length, take}
 use native.Mathlib.Omega.{arith}
 use Rattle.text.specs.Text.{ascii, decimal}
-use Rattle.text.specs.Putting.{Put, Line, figure-ends, line-done}
+use Rattle.text.specs.Putting.{Appended, Spelt, figure-ends, line-done}
 use Rattle.reply.specs.declared.Check.{Check}
 use Rattle.reply.specs.declared.Check.the-variants.{Accepted, Refused as Declined}
 use Rattle.reply.specs.declared.Refusal.{Refusal}
@@ -16,9 +16,8 @@ use Rattle.image.specs.Line.{stored}
 use Rattle.image.specs.Bytes.{wordsOf}
 use Rattle.acceptance.specs.Accept.{imageCheck}
 use Rattle.acceptance.specs.Questions.{bytesOk}
-use Rattle.acceptance.specs.Requires.{Buffered, buffered}
+use Rattle.acceptance.specs.Requires.{buffered}
 use Rattle.acceptance.specs.Laws.{prefix-fits, prefix-is, decoding}
-use Rattle.console.specs.declared.Input.{Input}
 use Rattle.console.specs.declared.Input.the-variants.{Image, Refused}
 use Rattle.console.specs.Console.{inputOf, refusedLine}
 use Rattle.console.specs.Requires.{Taken}
@@ -59,11 +58,11 @@ module _ (bytes : List ℕ) {b : Bool} (ok : b ≡ bytesOk (length bytes)) where
         number q = cc
 
 -- ---- the line of a refusal
-module _ (x : ℕ) {before mid : List ℕ} {k : ℕ} (room : 64 ≤ length before) (p : Put before 0 (ascii "refused " ++ decimal x) mid k) where
+module _ (x : ℕ) {before mid : List ℕ} {k : ℕ} (room : 64 ≤ length before) (p : Appended before 0 (ascii "refused " ++ decimal x) mid k) where
   pub refused-room : k + 1 ≤ length mid
   refused-room = omega (arith, figure-ends (ascii "refused ") x p, p .long)
 
-  pub refused-done : (r : Refusal) {y : ℕ} {after : List ℕ} {end : ℕ} → x ≡ y → y ≡ refusalNumber r → Put mid k (10 ∷ []) after end → Line before (refusedLine r) after end
+  pub refused-done : (r : Refusal) {y : ℕ} {after : List ℕ} {end : ℕ} → x ≡ y → y ≡ refusalNumber r → Appended mid k (10 ∷ []) after end → Spelt before (refusedLine r) after end
   unfolding refusedLine
   refused-done r e f q =
       rw (← f, ← e, ← append-assoc (ascii "refused ") (decimal x) (10 ∷ [])) (line-done p q (omega (arith, refused-room, p .long)))

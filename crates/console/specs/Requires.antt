@@ -12,7 +12,7 @@ use Rattle.survival.specs.Requires.{Headers, headers-of}
 use Rattle.acceptance.specs.Accept.{imageCheck}
 use Rattle.acceptance.specs.Laws.{image-sized}
 use Rattle.console.specs.declared.Input.{Input}
-use Rattle.console.specs.declared.Input.the-variants.{Image, Refused}
+use Rattle.console.specs.declared.Input.the-variants.{Image}
 
 pub record Taken (r : Input) (words : List ℕ) : Type 0 where
   pub fits : (k : ℕ) → r ≡ Image k → k ≤ length words

@@ -6,7 +6,7 @@ use reply::Refusal;
 ghost use mathlib.Core.Path.{_≡_};
 ghost use Prim.Native.Nat.{_≤_};
 ghost use lib.ListN.{length};
-ghost use Rattle.text.specs.Putting.{Line};
+ghost use Rattle.text.specs.Putting.{Spelt};
 ghost use Rattle.console.specs.Console.{inputOf, refusedLine};
 ghost use Rattle.console.specs.Requires.{Taken};
 
@@ -54,7 +54,7 @@ pub fn read_image(bytes: &mut [u8], words: &mut [u32]) -> Input
 
 fn refused_line(out: &mut [u8], r: Refusal) -> usize
     requires { ⌜ 64 ≤ length (now out) ⌝ }
-    ensures { λ k. ⌜ Line (now (out .entry)) (refusedLine r) (now (out .exit)) k ⌝ }
+    ensures { λ k. ⌜ Spelt (now (out .entry)) (refusedLine r) (now (out .exit)) k ⌝ }
 {
     let k = text::put_figure(out, 0, b"refused ", text::wide(reply::number(r)));
     text::put(out, k, b"\n")

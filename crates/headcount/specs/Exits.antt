@@ -5,7 +5,7 @@ use mathlib.Core.List.{List, [], _∷_, _++_, append-assoc}
 use lib.ListN.{length, length-append}
 use native.Mathlib.Omega.{arith}
 use Rattle.text.specs.Text.{ascii, decimal}
-use Rattle.text.specs.Putting.{Put, Line, put-both, decimal-short, figure-ends, line-done}
+use Rattle.text.specs.Putting.{Appended, Spelt, put-both, decimal-short, figure-ends, line-done}
 use Rattle.console.specs.Requires.{takings}
 use Rattle.classes.specs.declared.HeadCount.{HeadCount}
 use Rattle.classes.specs.Classes.{total}
@@ -13,21 +13,21 @@ use Rattle.headcount.specs.CountLine.{countLine}
 use Rattle.headcount.specs.Requires.{earlier, later}
 
 -- ---- two figures
-module _ (x : ℕ) {before mid : List ℕ} {k : ℕ} (p : Put before 0 (ascii "free " ++ decimal x) mid k) where
+module _ (x : ℕ) {before mid : List ℕ} {k : ℕ} (p : Appended before 0 (ascii "free " ++ decimal x) mid k) where
   pub earlier-room : 160 ≤ length before → k + 11 + 20 ≤ length mid
   earlier-room room = omega (arith, figure-ends (ascii "free ") x p, p .long)
 
-  pub earlier-put : (c : HeadCount) (y : ℕ) {after : List ℕ} {end : ℕ} → x ≡ c .free → y ≡ c .surviving → Put mid k (ascii " surviving " ++ decimal y) after end
-      → Put before 0 (earlier c) after end
+  pub earlier-put : (c : HeadCount) (y : ℕ) {after : List ℕ} {end : ℕ} → x ≡ c .free → y ≡ c .surviving → Appended mid k (ascii " surviving " ++ decimal y) after end
+      → Appended before 0 (earlier c) after end
   unfolding earlier
   earlier-put c y e f q = rw (← e, ← f) (put-both p q)
 
-module _ (at x : ℕ) {before mid : List ℕ} {k : ℕ} (p : Put before at (ascii " kept " ++ decimal x) mid k) where
+module _ (at x : ℕ) {before mid : List ℕ} {k : ℕ} (p : Appended before at (ascii " kept " ++ decimal x) mid k) where
   pub later-room : at + 80 ≤ length before → k + 5 + 20 ≤ length mid
   later-room room = omega (arith, figure-ends (ascii " kept ") x p, p .long)
 
-  pub later-put : (c : HeadCount) (y : ℕ) {after : List ℕ} {end : ℕ} → x ≡ c .kept → y ≡ c .new → Put mid k (ascii " new " ++ decimal y) after end
-      → Put before at (later c) after end
+  pub later-put : (c : HeadCount) (y : ℕ) {after : List ℕ} {end : ℕ} → x ≡ c .kept → y ≡ c .new → Appended mid k (ascii " new " ++ decimal y) after end
+      → Appended before at (later c) after end
   unfolding later
   later-put c y e f q = rw (← e, ← f) (put-both p q)
 
@@ -49,26 +49,26 @@ regroup : (a b c d e f g h i j k : List ℕ)
     → ((((a ++ b) ++ (c ++ d)) ++ ((e ++ f) ++ (g ++ h))) ++ (i ++ j)) ++ k ≡ a ++ b ++ c ++ d ++ e ++ f ++ g ++ h ++ i ++ j ++ k
 regroup a b c d e f g h i j k = simp append-assoc
 
-module _ (c : HeadCount) {before a : List ℕ} {i : ℕ} (room : 160 ≤ length before) (p : Put before 0 (earlier c) a i) where
+module _ (c : HeadCount) {before a : List ℕ} {i : ℕ} (room : 160 ≤ length before) (p : Appended before 0 (earlier c) a i) where
   pub line-later : i + 80 ≤ length a
   line-later = omega (arith, p .ends, p .long, earlier-short c)
 
-  module _ {b : List ℕ} {j : ℕ} (q : Put a i (later c) b j) where
+  module _ {b : List ℕ} {j : ℕ} (q : Appended a i (later c) b j) where
     ends : j ≤ 107
     ends = omega (arith, p .ends, q .ends, earlier-short c, later-short c)
 
     pub line-total : j + 7 + 20 ≤ length b
     line-total = omega (arith, ends, p .long, q .long)
 
-    module _ {m : List ℕ} {x k : ℕ} (e : x ≡ total c) (r : Put b j (ascii " total " ++ decimal x) m k) where
+    module _ {m : List ℕ} {x k : ℕ} (e : x ≡ total c) (r : Appended b j (ascii " total " ++ decimal x) m k) where
       pub line-end : k + 1 ≤ length m
       line-end = omega (arith, ends, figure-ends (ascii " total ") x r, p .long, q .long, r .long)
 
-      pub line-is : {after : List ℕ} {end : ℕ} → Put m k (10 ∷ []) after end → Line before (countLine c) after end
+      pub line-is : {after : List ℕ} {end : ℕ} → Appended m k (10 ∷ []) after end → Spelt before (countLine c) after end
       unfolding countLine earlier later
       line-is {after} {end} z =
           let whole = line-done (put-both (put-both p q) r) z (omega (arith, line-end, p .long, q .long, r .long)) in
           let same = regroup (ascii "free ") (decimal (c .free)) (ascii " surviving ") (decimal (c .surviving)) (ascii " kept ") (decimal (c .kept)) (ascii " new ") (decimal (c .new)) (ascii " total ") (decimal x) (ascii "\n") in
-          rw (← e) (subst (λ t. Line before t after end) same whole)
+          rw (← e) (subst (λ t. Spelt before t after end) same whole)
 
 pub ruleset laws = (earlier-room, earlier-put, later-room, later-put, line-later, line-total, line-end, line-is, takings)

@@ -5,7 +5,7 @@ use libc::STDOUT_FILENO;
 ghost use mathlib.Core.Path.{_≡_};
 ghost use Prim.Native.Nat.{_+_, _≤_};
 ghost use lib.ListN.{length};
-ghost use Rattle.text.specs.Putting.{Put, Line};
+ghost use Rattle.text.specs.Putting.{Appended, Spelt};
 ghost use Rattle.reply.specs.declared.Check.the-variants.{Accepted};
 ghost use Rattle.acceptance.specs.Accept.{imageCheck};
 ghost use Rattle.headcount.specs.CountLine.{countLine};
@@ -13,7 +13,7 @@ ghost use Rattle.headcount.specs.Requires.{earlier, later};
 
 fn put_earlier(out: &mut [u8], c: HeadCount) -> usize
     requires { ⌜ 160 ≤ length (now out) ⌝ }
-    ensures { λ r. ⌜ Put (now (out .entry)) 0 (earlier c) (now (out .exit)) r ⌝ }
+    ensures { λ r. ⌜ Appended (now (out .entry)) 0 (earlier c) (now (out .exit)) r ⌝ }
 {
     let k = text::put_figure(out, 0, b"free ", text::wide(c.free));
     text::put_figure(out, k, b" surviving ", text::wide(c.surviving))
@@ -21,7 +21,7 @@ fn put_earlier(out: &mut [u8], c: HeadCount) -> usize
 
 fn put_later(out: &mut [u8], at: usize, c: HeadCount) -> usize
     requires { ⌜ at + 80 ≤ length (now out) ⌝ }
-    ensures { λ r. ⌜ Put (now (out .entry)) at (later c) (now (out .exit)) r ⌝ }
+    ensures { λ r. ⌜ Appended (now (out .entry)) at (later c) (now (out .exit)) r ⌝ }
 {
     let k = text::put_figure(out, at, b" kept ", text::wide(c.kept));
     text::put_figure(out, k, b" new ", text::wide(c.new))
@@ -30,7 +30,7 @@ fn put_later(out: &mut [u8], at: usize, c: HeadCount) -> usize
 // The whole line: the four figures and their sum.
 fn count_line(out: &mut [u8], c: HeadCount) -> usize
     requires { ⌜ 160 ≤ length (now out) ⌝ }
-    ensures { λ r. ⌜ Line (now (out .entry)) (countLine c) (now (out .exit)) r ⌝ }
+    ensures { λ r. ⌜ Spelt (now (out .entry)) (countLine c) (now (out .exit)) r ⌝ }
 {
     let a = put_earlier(out, c);
     let b = put_later(out, a, c);

@@ -1,7 +1,7 @@
 // An image as bytes: four to a word, lowest first.
 ghost use mathlib.Core.Path.{_≡_};
-ghost use Prim.Native.Nat.{_*_, _≤_, _<_};
-ghost use lib.ListN.{length, getD};
+ghost use Prim.Native.Nat.{_*_, _<_};
+ghost use lib.ListN.{getD};
 ghost use Rattle.image.specs.Line.{stored};
 ghost use Rattle.image.specs.Bytes.{Byte, InWords, wordsOf, Decodes};
 

@@ -4,7 +4,7 @@ use libc::STDOUT_FILENO;
 ghost use mathlib.Core.Path.{_≡_};
 ghost use Prim.Native.Nat.{_≤_};
 ghost use lib.ListN.{length};
-ghost use Rattle.text.specs.Putting.{Put, Line};
+ghost use Rattle.text.specs.Putting.{Appended, Spelt};
 ghost use Rattle.reply.specs.declared.Check.the-variants.{Accepted};
 ghost use Rattle.image.specs.Layout.{contents};
 ghost use Rattle.image.specs.Requires.{Sized, Slot};
@@ -15,7 +15,7 @@ ghost use Rattle.lister.specs.Requires.{headFigures};
 
 fn put_head(out: &mut [u8], clock: u32, survivors: usize) -> usize
     requires { ⌜ 256 ≤ length (now out) ⌝ }
-    ensures { λ r. ⌜ Put (now (out .entry)) 0 (headFigures clock survivors) (now (out .exit)) r ⌝ }
+    ensures { λ r. ⌜ Appended (now (out .entry)) 0 (headFigures clock survivors) (now (out .exit)) r ⌝ }
 {
     let k = text::put_figure(out, 0, b"clock ", text::wide(clock));
     text::put_figure(out, k, b" survivors ", survivors as u64)
@@ -23,7 +23,7 @@ fn put_head(out: &mut [u8], clock: u32, survivors: usize) -> usize
 
 fn head_line(out: &mut [u8], clock: u32, survivors: usize) -> usize
     requires { ⌜ 256 ≤ length (now out) ⌝ }
-    ensures { λ r. ⌜ Line (now (out .entry)) (headLine clock survivors) (now (out .exit)) r ⌝ }
+    ensures { λ r. ⌜ Spelt (now (out .entry)) (headLine clock survivors) (now (out .exit)) r ⌝ }
 {
     let k = put_head(out, clock, survivors);
     text::put(out, k, b"\n")
@@ -33,7 +33,7 @@ fn head_line(out: &mut [u8], clock: u32, survivors: usize) -> usize
 fn slot_line(out: &mut [u8], img: &[u32], n: usize, w: usize, s: usize) -> usize
     requires { ⌜ Slot (now img) n w s ⌝ }
     requires { ⌜ 256 ≤ length (now out) ⌝ }
-    ensures { λ r. ⌜ Line (now (out .entry)) (slotLine s (contents (now (img .entry)) n w s)) (now (out .exit)) r ⌝ }
+    ensures { λ r. ⌜ Spelt (now (out .entry)) (slotLine s (contents (now (img .entry)) n w s)) (now (out .exit)) r ⌝ }
 {
     let b = image::contents::contents_at(n, w, s);
     let e = b + w;

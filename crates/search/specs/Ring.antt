@@ -2,13 +2,13 @@
 use Prim.Native.Nat.{ℕ, zero, suc, _+_, _-_, _≤_, _<_}
 use mathlib.Core.Path.{_≡_, refl, ap, _∙_}
 use mathlib.Core.Bool.{Bool, true, false, cond}
-use mathlib.Core.Logic.{inl, inr, ⊎-elim}
+use mathlib.Core.Logic.{inl, inr}
 use lib.Dec.{leb, ltb}
 use borrow.Author.Tests.{lt-ltb, le-ltb, le-leb, lt-leb}
 use native.Mathlib.Decide.{decLt, decLe}
 use native.Mathlib.Numerals.{add-one}
 use native.Mathlib.Omega.{arith}
-use Rattle.search.specs.Bools.{cases, never, flag}
+use Rattle.search.specs.Bools.{never, flag}
 use Rattle.search.specs.Count.{count, count-more, count-same, count-zero}
 use Rattle.search.specs.First.{whereFound, firstOf, First, found-first, found-nothing, found-cases, found-hit, found-end, Sought, sought-start, sought-next}
 use Rattle.search.specs.declared.Found.{Found}

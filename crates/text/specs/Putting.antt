@@ -16,16 +16,16 @@ use lib.Pow.{pow-add}
 use Rattle.search.specs.Bools.{cases}
 use Rattle.io.specs.Counts.{Counts}
 use Rattle.io.specs.Digits.{digits, Fewest}
-use Rattle.text.specs.Text.{ascii, digitsIn, decimal, spaced}
+use Rattle.text.specs.Text.{digitsIn, decimal, spaced}
 
 -- `after` has a text behind the first `at` bytes of `before`; it ends at `end`
-pub record Put (before : List ℕ) (at : ℕ) (text : List ℕ) (after : List ℕ) (end : ℕ) : Type 0 where
+pub record Appended (before : List ℕ) (at : ℕ) (text : List ℕ) (after : List ℕ) (end : ℕ) : Type 0 where
   pub long : length after ≡ length before
   pub ends : end ≡ at + length text
   pub is : take end after ≡ take at before ++ text
 
 -- one text, and behind it another
-pub put-both : {a b c s t : List ℕ} {at m e : ℕ} → Put a at s b m → Put b m t c e → Put a at (s ++ t) c e
+pub put-both : {a b c s t : List ℕ} {at m e : ℕ} → Appended a at s b m → Appended b m t c e → Appended a at (s ++ t) c e
 put-both {a} {b} {c} {s} {t} {at} {m} {e} x y =
     record {
       long = y .long ∙ x .long;
@@ -34,13 +34,13 @@ put-both {a} {b} {c} {s} {t} {at} {m} {e} x y =
     }
 
 -- a whole line: the first `end` bytes of the buffer, which is as long as before
-pub record Line (before : List ℕ) (text : List ℕ) (after : List ℕ) (end : ℕ) : Type 0 where
+pub record Spelt (before : List ℕ) (text : List ℕ) (after : List ℕ) (end : ℕ) : Type 0 where
   pub room : length after ≡ length before
   pub fits : end ≤ length after
   pub long : end ≡ length (take end after)
   pub is : take end after ≡ text
 
-pub line-of : {before text after : List ℕ} {end : ℕ} → Put before 0 text after end → length text ≤ length before → Line before text after end
+pub line-of : {before text after : List ℕ} {end : ℕ} → Appended before 0 text after end → length text ≤ length before → Spelt before text after end
 line-of {before} {text} {after} {end} p h =
     let f : end ≤ length after = omega (arith, p .long, p .ends) in
     record { room = p .long; fits = f; long = sym (length-take-le end after f); is = p .is }
@@ -48,7 +48,7 @@ line-of {before} {text} {after} {end} p h =
 -- ---- a loop has put i bytes
 pub record Putting (before : List ℕ) (at : ℕ) (part : List ℕ) (i : ℕ) (out : List ℕ) : Type 0 where
   pub low : i ≤ length part
-  pub so-far : Put before at (take i part) out (at + i)
+  pub so-far : Appended before at (take i part) out (at + i)
 
 pub putting-start : (before : List ℕ) (at : ℕ) (part : List ℕ) → Putting before at part 0 before
 putting-start before at part =
@@ -71,7 +71,7 @@ putting-next {before} {at} {part} {i} {out} {v} z h room e =
           };
     }
 
-pub putting-end : {before : List ℕ} {at : ℕ} {part : List ℕ} {i : ℕ} {out : List ℕ} → Putting before at part i out → length part ≤ i → Put before at part out (at + i)
+pub putting-end : {before : List ℕ} {at : ℕ} {part : List ℕ} {i : ℕ} {out : List ℕ} → Putting before at part i out → length part ≤ i → Appended before at part out (at + i)
 putting-end {before} {at} {part} {i} z h = rw (take-all i part h) at (z .so-far)
 
 pub putting-fits : {before : List ℕ} {at : ℕ} {part : List ℕ} {i : ℕ} {out : List ℕ} → Putting before at part i out → i < length part
@@ -120,7 +120,7 @@ module _ (x k : ℕ) (ds : List ℕ) (c : Counts k ds) (f : Fewest 10 1 x k) (sm
   pub number-room : (at room : ℕ) → at + 20 ≤ room → at + length (take k ds) ≤ room
   number-room at room h = omega (arith, c .1, few-digits k x f small)
 
-  pub number-put : {before after : List ℕ} {at end : ℕ} → take k ds ≡ digits 10 k x → Put before at (take k ds) after end → Put before at (decimal x) after end
+  pub number-put : {before after : List ℕ} {at end : ℕ} → take k ds ≡ digits 10 k x → Appended before at (take k ds) after end → Appended before at (decimal x) after end
   unfolding decimal
   number-put e p = rw (e, digits-in k 20 x (few-digits k x f small) f) at p
 
@@ -138,12 +138,12 @@ decimal-short n = short 20 n
         (cases (ltb m 10))
 
 -- a word and a number: where they end at most
-pub figure-ends : (word : List ℕ) (x : ℕ) {before after : List ℕ} {at end : ℕ} → Put before at (word ++ decimal x) after end → end ≤ at + length word + 20
+pub figure-ends : (word : List ℕ) (x : ℕ) {before after : List ℕ} {at end : ℕ} → Appended before at (word ++ decimal x) after end → end ≤ at + length word + 20
 figure-ends word x p = omega (arith, p .ends, length-append word (decimal x), decimal-short x)
 
 -- a text, and behind it the end of the line
-pub line-done : {before text mid after : List ℕ} {k end : ℕ} → Put before 0 text mid k → Put mid k (10 ∷ []) after end → k + 1 ≤ length before
-    → Line before (text ++ (10 ∷ [])) after end
+pub line-done : {before text mid after : List ℕ} {k end : ℕ} → Appended before 0 text mid k → Appended mid k (10 ∷ []) after end → k + 1 ≤ length before
+    → Spelt before (text ++ (10 ∷ [])) after end
 line-done {before} {text} p q h =
     line-of (put-both p q) (simp length-append (omega (arith, p .ends)))
 
@@ -165,7 +165,7 @@ spaced-short (x ∷ xs) = rw (length-append (decimal x) (spaced xs)) (omega (ari
 -- a loop has put i numbers
 pub record Spacing (before : List ℕ) (at : ℕ) (numbers : List ℕ) (i : ℕ) (out : List ℕ) (k : ℕ) : Type 0 where
   pub low : i ≤ length numbers
-  pub so-far : Put before at (spaced (take i numbers)) out k
+  pub so-far : Appended before at (spaced (take i numbers)) out k
   pub room : k ≤ at + 21 * i
 
 pub spacing-start : (before : List ℕ) (at : ℕ) (numbers : List ℕ) → Spacing before at numbers 0 before at
@@ -178,9 +178,9 @@ spacing-start before at numbers =
     }
 
 pub spacing-next : {before : List ℕ} {at : ℕ} {numbers : List ℕ} {i : ℕ} {out out′ : List ℕ} {k k′ x : ℕ} → Spacing before at numbers i out k → i < length numbers
-    → x ≡ getD numbers i 0 → Put out k ((32 ∷ []) ++ decimal x) out′ k′ → Spacing before at numbers (i + 1) out′ k′
+    → x ≡ getD numbers i 0 → Appended out k ((32 ∷ []) ++ decimal x) out′ k′ → Spacing before at numbers (i + 1) out′ k′
 spacing-next {before} {at} {numbers} {i} {out} {out′} {k} {k′} {x} z h e p =
-    let q : Put out k (32 ∷ decimal (getD numbers i 0)) out′ k′ = rw e at p in
+    let q : Appended out k (32 ∷ decimal (getD numbers i 0)) out′ k′ = rw e at p in
     record {
       low = omega arith;
       so-far = rw (spaced-next numbers i h) (put-both (z .so-far) q);
@@ -192,7 +192,7 @@ pub spacing-room : {before : List ℕ} {at : ℕ} {numbers : List ℕ} {i : ℕ}
 spacing-room z h room = omega (arith, z .so-far .long, z .room)
 
 pub spacing-end : {before : List ℕ} {at : ℕ} {numbers : List ℕ} {i : ℕ} {out : List ℕ} {k : ℕ} → Spacing before at numbers i out k → length numbers ≤ i
-    → Put before at (spaced numbers) out k
+    → Appended before at (spaced numbers) out k
 spacing-end {before} {at} {numbers} {i} z h = rw (take-all i numbers h) at (z .so-far)
 
 pub ruleset loops = (putting-start, putting-next, putting-end, putting-fits, spacing-start, spacing-next, spacing-room, spacing-end)

@@ -4,12 +4,12 @@ ghost use mathlib.Core.List.{_++_};
 ghost use Prim.Native.Nat.{_+_, _*_, _≤_};
 ghost use lib.ListN.{length};
 ghost use Rattle.text.specs.Text.{decimal, spaced};
-ghost use Rattle.text.specs.Putting.{Put};
+ghost use Rattle.text.specs.Putting.{Appended};
 
 // Puts a part behind the first `at` bytes, and says where it ends.
 pub fn put(out: &mut [u8], at: usize, part: &[u8]) -> usize
     requires { ⌜ at + length (now part) ≤ length (now out) ⌝ }
-    ensures { λ r. ⌜ Put (now (out .entry)) at (now (part .entry)) (now (out .exit)) r ⌝ }
+    ensures { λ r. ⌜ Appended (now (out .entry)) at (now (part .entry)) (now (out .exit)) r ⌝ }
 {
     let mut i = 0;
     while i < part.len() {
@@ -22,7 +22,7 @@ pub fn put(out: &mut [u8], at: usize, part: &[u8]) -> usize
 // A number in decimal: 20 digits at most.
 pub fn put_number(out: &mut [u8], at: usize, x: u64) -> usize
     requires { ⌜ at + 20 ≤ length (now out) ⌝ }
-    ensures { λ r. ⌜ Put (now (out .entry)) at (decimal x) (now (out .exit)) r ⌝ }
+    ensures { λ r. ⌜ Appended (now (out .entry)) at (decimal x) (now (out .exit)) r ⌝ }
 {
     let mut digits = [0u8; 20];
     let k = io::decimal(x, &mut digits);
@@ -32,7 +32,7 @@ pub fn put_number(out: &mut [u8], at: usize, x: u64) -> usize
 // A word, and behind it a number.
 pub fn put_figure(out: &mut [u8], at: usize, word: &[u8], x: u64) -> usize
     requires { ⌜ at + length (now word) + 20 ≤ length (now out) ⌝ }
-    ensures { λ r. ⌜ Put (now (out .entry)) at (now (word .entry) ++ decimal x) (now (out .exit)) r ⌝ }
+    ensures { λ r. ⌜ Appended (now (out .entry)) at (now (word .entry) ++ decimal x) (now (out .exit)) r ⌝ }
 {
     let k = put(out, at, word);
     put_number(out, k, x)
@@ -48,7 +48,7 @@ pub fn wide(x: u32) -> u64
 // Numbers, a space before each.
 pub fn put_spaced(out: &mut [u8], at: usize, numbers: &[u32]) -> usize
     requires { ⌜ at + 21 * length (now numbers) ≤ length (now out) ⌝ }
-    ensures { λ r. ⌜ Put (now (out .entry)) at (spaced (now (numbers .entry))) (now (out .exit)) r ⌝ }
+    ensures { λ r. ⌜ Appended (now (out .entry)) at (spaced (now (numbers .entry))) (now (out .exit)) r ⌝ }
 {
     let mut k = at;
     let mut i = 0;

@@ -1,7 +1,6 @@
 -- `uid_ok`: by the tests on the way.
 use borrow.Author.Needs.{needs}
 use Rattle.transient.specs.Exits.{laws, entries}
-use Rattle.transient.specs.Requires.{uidOk}
 use Rattle.transient.proofs.entry.uid_ok.Statement.{statement}
 use Rattle.transient.proofs.entry.uid_ok.Tie as tie
 

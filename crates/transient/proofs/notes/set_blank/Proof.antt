@@ -2,7 +2,7 @@
 use borrow.Author.Needs.{needs}
 use lib.ListN.{length-set}
 use native.Mathlib.Omega.{arith}
-use Rattle.transient.specs.Exits.{blank-set, laws}
+use Rattle.transient.specs.Exits.{blank-set}
 use Rattle.transient.proofs.notes.set_blank.Statement.{statement}
 use Rattle.transient.proofs.notes.set_blank.Tie as tie
 
