@@ -41,7 +41,8 @@ nameBelow l n w s = survivor l n s && anyOf (survivesAs l n w (nameAt l n w s)) 
 -- 4: "two kept slots equal in uid and label, or two survivors equal in key"
 unfoldable pub imageCheck : List ℕ → Check
 imageCheck l =
+    let n = slotsOf l in let w = widthOf l in let c = clockOf l in
     refuse (not (shapeOk l)) BadSizes
-    (refuse (not (clockOk (clockOf l))) BadClock
-    (refuse (not (every (λ s. proper (clockOf l) (header l s)) (slotsOf l)) || anyOf (λ s. survivor l (slotsOf l) s && eqb (nameAt l (slotsOf l) (widthOf l) s) 0) (slotsOf l)) BadSlot
-    (refuse (anyOf (versionBelow (clockOf l) (header l)) (slotsOf l) || anyOf (nameBelow l (slotsOf l) (widthOf l)) (slotsOf l)) Duplicate Accepted)))
+    (refuse (not (clockOk c)) BadClock
+    (refuse (not (every (λ s. proper c (header l s)) n) || anyOf (λ s. survivor l n s && eqb (nameAt l n w s) 0) n) BadSlot
+    (refuse (anyOf (versionBelow c (header l)) n || anyOf (nameBelow l n w) n) Duplicate Accepted)))

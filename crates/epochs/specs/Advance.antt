@@ -101,10 +101,10 @@ step z st c p =
 -- 14: "advance, none underway: an operation open in clock − 1"; 15: "advance: clock 4,000,000,000"
 unfoldable pub advanceCheck : Store → Check
 advanceCheck st =
+    let tr = st .transient in let c = clockOf (st .working) in
     byCheck (entryCheck st) Refused
-    (refuse (not (leb reclaimNext (note phaseAt (st .transient)) && leb (note phaseAt (st .transient)) clockNext)
-    && anyOf (λ thread. eqb (openEpoch (st .transient) thread + 1) (clockOf (st .working))) (sizesOf (tableOf st) .t)) StillOpen
-    (refuse (eqb (clockOf (st .working)) mostNumber) LastEpoch Accepted))
+    (refuse (not (leb reclaimNext (note phaseAt tr) && leb (note phaseAt tr) clockNext) && anyOf (λ thread. eqb (openEpoch tr thread + 1) c) (sizesOf (tableOf st) .t)) StillOpen
+    (refuse (eqb c mostNumber) LastEpoch Accepted))
 
 -- the notes keep the place
 abbrev pub noted : Stepped → Outcome Advance

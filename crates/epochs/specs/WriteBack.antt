@@ -14,8 +14,7 @@ use Rattle.transient.specs.Entry.{entryCheck}
 -- 16: "slot not below N, or line code other than 0 (contents) and 1 (mark)"; else that line of the slot, as working holds it
 unfoldable pub writeBack : Store → ℕ → ℕ → Outcome Check
 writeBack st slot code =
-    afterCheck (byCheck (entryCheck st) Refused (refuse (leb (slotsOf (st .working)) slot || ltb 1 code) NoLine Accepted)) Refused st
-    (outcome Accepted (st .working) (storeLine (st .persistent)
-    (cond (eqb code 0)
-    (contentsLine (slotsOf (st .working)) (widthOf (st .working)) slot (contents (st .working) (slotsOf (st .working)) (widthOf (st .working)) slot))
-    (headerLine slot (header (st .working) slot)))) (st .transient))
+    let wk = st .working in let n = slotsOf wk in let w = widthOf wk in
+    afterCheck (byCheck (entryCheck st) Refused (refuse (leb n slot || ltb 1 code) NoLine Accepted)) Refused st
+    (outcome Accepted wk (storeLine (st .persistent)
+    (cond (eqb code 0) (contentsLine n w slot (contents wk n w slot)) (headerLine slot (header wk slot)))) (st .transient))

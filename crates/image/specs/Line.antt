@@ -10,17 +10,14 @@ pub record Line : Type 0 where
   pub at : ℕ
   pub words : List ℕ
 
-abbrev pub line : ℕ → List ℕ → Line
-line at words = record { at = at; words = words }
-
 abbrev pub headerLine : ℕ → Header → Line
-headerLine s h = line (headerAt s) (h .kind ∷ h .epoch ∷ h .uid ∷ [])
+headerLine s h = record { at = headerAt s; words = h .kind ∷ h .epoch ∷ h .uid ∷ [] }
 
 abbrev pub contentsLine : ℕ → ℕ → ℕ → List ℕ → Line
-contentsLine n w s words = line (contentsAt n w s) words
+contentsLine n w s words = record { at = contentsAt n w s; words = words }
 
 abbrev pub clockLine : ℕ → Line
-clockLine c = line 2 (c ∷ [])
+clockLine c = record { at = 2; words = c ∷ [] }
 
 -- the first k words of src, put into dst from b on
 unfoldable pub stored : List ℕ → ℕ → List ℕ → ℕ → List ℕ

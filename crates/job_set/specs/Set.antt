@@ -8,7 +8,7 @@ use Rattle.reply.specs.declared.Check.{Check}
 use Rattle.reply.specs.declared.Check.the-variants.{Accepted}
 use Rattle.reply.specs.declared.Refusal.the-variants.{NoJob}
 use Rattle.image.specs.Layout.{contentsAt, header, updatedHeader}
-use Rattle.image.specs.Line.{line, storeLine}
+use Rattle.image.specs.Line.{storeLine}
 use Rattle.transient.specs.declared.sizes.Sizes.{Sizes}
 use Rattle.transient.specs.Layout.{setWaiting}
 use Rattle.transient.specs.Store.{Store, Table, Outcome}
@@ -21,7 +21,7 @@ use Rattle.jobs.specs.Way.{onJob}
 unfoldable pub setAt : Sizes → Table → ℕ → ℕ → Job → Changed
 setAt z tb e s j =
     cond (eqb (header (tb .working) s .epoch) e)
-    (changed Accepted (storeLine (tb .working) (line (contentsAt (z .n) (z .w) s + 1) (j .value))) (setWaiting z (tb .transient) e s))
+    (changed Accepted (storeLine (tb .working) (record { at = contentsAt (z .n) (z .w) s + 1; words = j .value })) (setWaiting z (tb .transient) e s))
     (superseded (room z tb 2) z tb e s (updatedHeader e (header (tb .working) s .uid)) (j .key ∷ j .value))
 
 -- 10: "no live job of that key"

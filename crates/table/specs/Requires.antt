@@ -12,7 +12,7 @@ use Rattle.search.specs.Some.{anyOf}
 use Rattle.search.specs.Ring.{ringSlot, ring-below}
 use Rattle.search.specs.declared.Found.{Found}
 use Rattle.image.specs.Layout.{mostSlots, headerWords, contentsAt}
-use Rattle.image.specs.Line.{line, storeLine}
+use Rattle.image.specs.Line.{storeLine}
 use Rattle.image.specs.Name.{Name}
 use Rattle.image.specs.Requires.{Slot, HeaderFits, slot, slot-header, slot-after}
 use Rattle.transient.specs.declared.sizes.Sizes.{Sizes}
@@ -57,7 +57,7 @@ lookedUp f = whereFound f Live Absent
 -- ---- a value for a slot
 -- the value words of a slot
 unfoldable pub setValue : Sizes → List ℕ → ℕ → List ℕ → List ℕ
-setValue z wk s value = storeLine wk (line (contentsAt (z .n) (z .w) s + 1) value)
+setValue z wk s value = storeLine wk (record { at = contentsAt (z .n) (z .w) s + 1; words = value })
 
 pub record SlotValue (l : List ℕ) (z : Sizes) (s : ℕ) (value : List ℕ) : Type 0 where
   pub slot : Slot l (z .n) (z .w) s

@@ -19,7 +19,8 @@ imagesFit wk l = shapeOk wk && (shapeOk l && (eqb (slotsOf l) (slotsOf wk) && eq
 
 -- "a note naming a slot not below N, or a next uid outside 1 to 4,000,000,001"
 unfoldable pub notesFit : List ℕ → ℕ → Bool
-notesFit tr n = eqb (note slotsAt tr) n && (ltb (note lastAt tr) n && (ltb (note placeAt tr) n && (leb 1 (note nextUidAt tr) && leb (note nextUidAt tr) (mostNumber + 1))))
+notesFit tr n = eqb (note slotsAt tr) n && (ltb (note lastAt tr) n && (ltb (note placeAt tr) n
+    && (leb 1 (note nextUidAt tr) && leb (note nextUidAt tr) (mostNumber + 1))))
 
 -- 2: "an open epoch that is neither the clock nor one below it"
 unfoldable pub opensOk : List ℕ → ℕ → ℕ → Bool
@@ -28,5 +29,6 @@ opensOk tr t c = every (λ thread. eqb (openEpoch tr thread) 0 || (eqb (openEpoc
 -- "clock outside 2 to 4,000,000,000; .. the two clocks unequal"
 unfoldable pub entryCheck : Store → Check
 entryCheck st =
-    refuse (not (imagesFit (st .working) (st .persistent) && (threadsOk (length (st .transient)) (slotsOf (st .working)) && notesFit (st .transient) (slotsOf (st .working))))) BadSizes
-    (refuse (not (clockOk (clockOf (st .working)) && (eqb (clockOf (st .persistent)) (clockOf (st .working)) && opensOk (st .transient) (sizesOf (tableOf st) .t) (clockOf (st .working))))) BadClock Accepted)
+    let wk = st .working in let l = st .persistent in let tr = st .transient in
+    refuse (not (imagesFit wk l && (threadsOk (length tr) (slotsOf wk) && notesFit tr (slotsOf wk)))) BadSizes
+    (refuse (not (clockOk (clockOf wk) && (eqb (clockOf l) (clockOf wk) && opensOk tr (sizesOf (tableOf st) .t) (clockOf wk)))) BadClock Accepted)
