@@ -1,4 +1,4 @@
--- 01, "The image lister": what a program makes of the bytes it is given, and the line of a refusal.
+-- 01, "The image lister": what a program makes of the bytes it is given, and what it prints of a refusal.
 use Prim.Native.Nat.{ℕ, _/_}
 use mathlib.Core.Bool.{not}
 use mathlib.Core.List.{List, _++_}
@@ -17,6 +17,10 @@ use Rattle.console.specs.declared.Input.the-variants.{Image, Refused}
 unfoldable pub inputOf : List ℕ → Input
 inputOf bytes = byCheck (refuse (not (bytesOk (length bytes))) BadSizes (imageCheck (wordsOf bytes))) Refused (Image (length bytes / 4))
 
--- "on a refusal only `refused` and the number, as `refused 1`"
 unfoldable pub refusedLine : Refusal → List ℕ
 refusedLine r = ascii "refused " ++ decimal (refusalNumber r) ++ ascii "\n"
+
+-- "on a refusal only `refused` and the number, as `refused 1`"; else the text of the image
+abbrev pub printed : Input → List ℕ → List ℕ
+printed (Image k) text = text
+printed (Refused r) text = refusedLine r

@@ -23,34 +23,33 @@ use Rattle.console.specs.Console.{inputOf, refusedLine}
 use Rattle.console.specs.Requires.{Taken}
 
 -- ---- nothing is taken, or an image
-pub taken-none : (r : Refusal) (words : List ℕ) → Taken (Refused r) words
-taken-none r words = record { fits = λ k e. impossible e; accepted = λ k e. impossible e }
+taken-none : {bytes words : List ℕ} {r : Refusal} → Refused r ≡ inputOf bytes → Taken bytes (Refused r) words
+taken-none {r = r} e = record { is = e; fits = λ k q. impossible q; image = λ k q. impossible q; accepted = λ k q. impossible q }
   where
     impossible : {A : Type 0} {k : ℕ} → Refused r ≡ Image k → A
-    impossible e = let z : _≡_ {A = ℕ} 0 1 = cc in absurd (omega arith)
+    impossible q = let z : _≡_ {A = ℕ} 0 1 = cc in absurd (omega arith)
 
 module _ (bytes : List ℕ) {b : Bool} (ok : b ≡ bytesOk (length bytes)) where
-  pub input-count : b ≡ false → Refused BadSizes ≡ inputOf bytes
+  pub taken-count : (words : List ℕ) → b ≡ false → Taken bytes (Refused BadSizes) words
   unfolding inputOf
-  input-count f = rw (← ok, f)
+  taken-count words f = taken-none (rw (← ok, f))
 
   module _ (words : List ℕ) {words′ : List ℕ} {k : Check} (t : b ≡ true) (long : length words ≡ 12291)
       (d : words′ ≡ stored words 0 (wordsOf bytes) (length bytes / 4)) (ck : k ≡ imageCheck (take (length bytes / 4) words′)) where
     judged : k ≡ imageCheck (wordsOf bytes)
     judged = ck ∙ ap imageCheck (prefix-is bytes words (buffered ok t long) d)
 
-    pub input-refused : {r : Refusal} → k ≡ Declined r → Refused r ≡ inputOf bytes
+    pub taken-refused : {r : Refusal} → k ≡ Declined r → Taken bytes (Refused r) words′
     unfolding inputOf
-    input-refused e = rw (← ok, t, ← judged, e)
+    taken-refused e = taken-none (rw (← ok, t, ← judged, e))
 
-    pub input-image : k ≡ Accepted → Image (length bytes / 4) ≡ inputOf bytes
+    pub taken-image : k ≡ Accepted → Taken bytes (Image (length bytes / 4)) words′
     unfolding inputOf
-    input-image e = rw (← ok, t, ← judged, e)
-
-    pub taken-image : k ≡ Accepted → Taken (Image (length bytes / 4)) words′
     taken-image e =
         record {
+          is = rw (← ok, t, ← judged, e);
           fits = λ j q. rw (← number q) (prefix-fits bytes words (buffered ok t long) d);
+          image = λ j q. rw (← number q) (prefix-is bytes words (buffered ok t long) d);
           accepted = λ j q. rw (← number q) (sym ck ∙ e);
         }
       where
@@ -67,4 +66,4 @@ module _ (x : ℕ) {before mid : List ℕ} {k : ℕ} (room : 64 ≤ length befor
   refused-done r e f q =
       rw (← f, ← e, ← append-assoc (ascii "refused ") (decimal x) (10 ∷ [])) (line-done p q (omega (arith, refused-room, p .long)))
 
-pub ruleset laws = (decoding, taken-none, input-count, input-refused, input-image, taken-image, refused-room, refused-done)
+pub ruleset laws = (decoding, taken-count, taken-refused, taken-image, refused-room, refused-done)

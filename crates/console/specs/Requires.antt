@@ -1,32 +1,47 @@
--- What a caller may do with an image that was taken: the first k words of the buffer are one that recovery accepts.
+-- What a caller may do with the image that some bytes are: it is the first k words of the buffer, and recovery accepts it.
 use Prim.Native.Nat.{ℕ, _≤_, _<_}
 use mathlib.Core.Path.{_≡_, sym}
 use mathlib.Core.List.{List}
 use lib.ListN.{length, take}
 use lib.Seq.{length-take-le}
-use Rattle.reply.specs.declared.Check.the-variants.{Accepted}
 use native.Mathlib.Omega.{arith}
+use Rattle.text.specs.Putting.{Spelt}
+use Rattle.reply.specs.declared.Check.the-variants.{Accepted}
+use Rattle.reply.specs.declared.Refusal.{Refusal}
 use Rattle.image.specs.Layout.{slotsOf, widthOf}
 use Rattle.image.specs.Requires.{Sized}
+use Rattle.image.specs.Bytes.{wordsOf}
 use Rattle.survival.specs.Requires.{Headers, headers-of}
 use Rattle.acceptance.specs.Accept.{imageCheck}
 use Rattle.acceptance.specs.Laws.{image-sized}
 use Rattle.console.specs.declared.Input.{Input}
-use Rattle.console.specs.declared.Input.the-variants.{Image}
+use Rattle.console.specs.declared.Input.the-variants.{Image, Refused}
+use Rattle.console.specs.Console.{inputOf, refusedLine, printed}
 
-pub record Taken (r : Input) (words : List ℕ) : Type 0 where
+pub record Taken (bytes : List ℕ) (r : Input) (words : List ℕ) : Type 0 where
+  pub is : r ≡ inputOf bytes
   pub fits : (k : ℕ) → r ≡ Image k → k ≤ length words
+  pub image : (k : ℕ) → r ≡ Image k → take k words ≡ wordsOf bytes
   pub accepted : (k : ℕ) → r ≡ Image k → imageCheck (take k words) ≡ Accepted
 
 -- ---- for a caller, by the case
-pub taken-fits : (words : List ℕ) {r : Input} {k : ℕ} → Taken r words → r ≡ Image k → k ≤ length words
-taken-fits words {r} {k} t e = t .fits k e
+module _ {bytes : List ℕ} (words : List ℕ) {r : Input} {k : ℕ} (t : Taken bytes r words) (e : r ≡ Image k) where
+  pub taken-fits : k ≤ length words
+  taken-fits = t .fits k e
 
-pub taken-long : (words : List ℕ) {r : Input} {k : ℕ} → Taken r words → r ≡ Image k → k ≡ length (take k words)
-taken-long words {r} {k} t e = sym (length-take-le k words (t .fits k e))
+  pub taken-long : k ≡ length (take k words)
+  taken-long = sym (length-take-le k words (t .fits k e))
 
-pub taken-accepted : (words : List ℕ) {r : Input} {k : ℕ} → Taken r words → r ≡ Image k → imageCheck (take k words) ≡ Accepted
-taken-accepted words {r} {k} t e = t .accepted k e
+  pub taken-accepted : imageCheck (take k words) ≡ Accepted
+  taken-accepted = t .accepted k e
+
+-- what is printed: the text of the image, or the refusal
+module _ (bytes : List ℕ) {words : List ℕ} {r : Input} (text : List ℕ → List ℕ) {before after : List ℕ} {end : ℕ} (t : Taken bytes r words) where
+  pub printed-image : {k : ℕ} → r ≡ Image k → Spelt before (text (take k words)) after end → Spelt before (printed (inputOf bytes) (text (wordsOf bytes))) after end
+  printed-image {k} e s = rw (← t .is, e, ← t .image k e) s
+
+  pub printed-refusal : {d : Refusal} → r ≡ Refused d → Spelt before (refusedLine d) after end → Spelt before (printed (inputOf bytes) (text (wordsOf bytes))) after end
+  printed-refusal e s = rw (← t .is, e) s
 
 -- ---- an accepted image has its size words, and its sizes are in range
 module _ (l : List ℕ) (a : imageCheck l ≡ Accepted) where

@@ -2,14 +2,19 @@
 use Prim.Native.Nat.{ℕ, _+_, _≤_}
 use mathlib.Core.Path.{_≡_, subst}
 use mathlib.Core.List.{List, [], _∷_, _++_, append-assoc}
-use lib.ListN.{length, length-append}
+use lib.ListN.{length, take, length-append}
 use native.Mathlib.Omega.{arith}
 use Rattle.text.specs.Text.{ascii, decimal}
 use Rattle.text.specs.Putting.{Appended, Spelt, put-both, decimal-short, figure-ends, line-done}
-use Rattle.console.specs.Requires.{takings}
+use Rattle.reply.specs.declared.Refusal.{Refusal}
+use Rattle.image.specs.Layout.{slotsOf}
+use Rattle.console.specs.declared.Input.{Input}
+use Rattle.console.specs.declared.Input.the-variants.{Image, Refused}
+use Rattle.console.specs.Console.{refusedLine}
+use Rattle.console.specs.Requires.{Taken, printed-image, printed-refusal, takings}
 use Rattle.classes.specs.declared.HeadCount.{HeadCount}
-use Rattle.classes.specs.Classes.{total}
-use Rattle.headcount.specs.CountLine.{countLine}
+use Rattle.classes.specs.Classes.{headCount, total}
+use Rattle.headcount.specs.Printed.{countLine, imageCount, printedCount}
 use Rattle.headcount.specs.Requires.{earlier, later}
 
 -- ---- two figures
@@ -71,4 +76,19 @@ module _ (c : HeadCount) {before a : List ℕ} {i : ℕ} (room : 160 ≤ length 
           let same = regroup (ascii "free ") (decimal (c .free)) (ascii " surviving ") (decimal (c .surviving)) (ascii " kept ") (decimal (c .kept)) (ascii " new ") (decimal (c .new)) (ascii " total ") (decimal x) (ascii "\n") in
           rw (← e) (subst (λ t. Spelt before t after end) same whole)
 
-pub ruleset laws = (earlier-room, earlier-put, later-room, later-put, line-later, line-total, line-end, line-is, takings)
+-- ---- the image, and the bytes
+pub image-counted : (l : List ℕ) {n : ℕ} {c : HeadCount} {before after : List ℕ} {end : ℕ} → n ≡ slotsOf l → c ≡ headCount l n
+    → Spelt before (countLine c) after end → Spelt before (imageCount l) after end
+unfolding imageCount
+image-counted l e f s = rw (← e, ← f) s
+
+module _ (bytes : List ℕ) {words : List ℕ} {r : Input} {before after : List ℕ} {end : ℕ} (t : Taken bytes r words) where
+  pub bytes-counted : {k : ℕ} → r ≡ Image k → Spelt before (imageCount (take k words)) after end → Spelt before (printedCount bytes) after end
+  unfolding printedCount
+  bytes-counted e s = printed-image bytes imageCount t e s
+
+  pub bytes-refused : {d : Refusal} → r ≡ Refused d → Spelt before (refusedLine d) after end → Spelt before (printedCount bytes) after end
+  unfolding printedCount
+  bytes-refused e s = printed-refusal bytes imageCount t e s
+
+pub ruleset laws = (earlier-room, earlier-put, later-room, later-put, line-later, line-total, line-end, line-is, takings, image-counted, bytes-counted, bytes-refused)

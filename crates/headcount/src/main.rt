@@ -8,7 +8,7 @@ ghost use lib.ListN.{length};
 ghost use Rattle.text.specs.Putting.{Appended, Spelt};
 ghost use Rattle.reply.specs.declared.Check.the-variants.{Accepted};
 ghost use Rattle.acceptance.specs.Accept.{imageCheck};
-ghost use Rattle.headcount.specs.CountLine.{countLine};
+ghost use Rattle.headcount.specs.Printed.{countLine, imageCount, printedCount};
 ghost use Rattle.headcount.specs.Requires.{earlier, later};
 
 fn put_earlier(out: &mut [u8], c: HeadCount) -> usize
@@ -38,33 +38,41 @@ fn count_line(out: &mut [u8], c: HeadCount) -> usize
     text::put(out, k, b"\n")
 }
 
-fn print_count(out: &mut [u8], c: HeadCount)
-    requires { ⌜ 160 ≤ length (now out) ⌝ }
-{
-    let k = count_line(out, c);
-    io::write_all(STDOUT_FILENO, &out[..k]);
-}
-
-fn count_image(img: &[u32])
+// The line of an image that recovery accepts.
+fn count_image(out: &mut [u8], img: &[u32]) -> usize
     requires { ⌜ imageCheck (now img) ≡ Accepted ⌝ }
+    requires { ⌜ 160 ≤ length (now out) ⌝ }
+    ensures { λ r. ⌜ Spelt (now (out .entry)) (imageCount (now (img .entry))) (now (out .exit)) r ⌝ }
 {
     let n = image::shape::wide(img[0]);
     let flags = survival::survivors(img, n);
-    let mut out = [0u8; 160];
-    print_count(&mut out, classes::head_count(img, &flags, n));
+    count_line(out, classes::head_count(img, &flags, n))
 }
 
-fn count_input(bytes: &mut [u8], words: &mut [u32])
+// What is printed of the bytes that were read.
+fn count_bytes(out: &mut [u8], bytes: &[u8], words: &mut [u32]) -> usize
     requires { ⌜ length (now words) ≡ 12291 ⌝ }
+    requires { ⌜ 160 ≤ length (now out) ⌝ }
+    ensures { λ r. ⌜ Spelt (now (out .entry)) (printedCount (now (bytes .entry))) (now (out .exit)) r ⌝ }
 {
-    match console::read_image(bytes, words) {
-        Input::Refused(r) => console::print_refused(r),
-        Input::Image(k) => count_image(&words[..k]),
+    match console::judge(bytes, words) {
+        Input::Refused(r) => console::refused_line(out, r),
+        Input::Image(k) => count_image(out, &words[..k]),
     }
+}
+
+fn run(bytes: &mut [u8], words: &mut [u32], out: &mut [u8])
+    requires { ⌜ length (now words) ≡ 12291 ⌝ }
+    requires { ⌜ 160 ≤ length (now out) ⌝ }
+{
+    let n = console::read_bytes(bytes);
+    let k = count_bytes(out, &bytes[..n], words);
+    io::write_all(STDOUT_FILENO, &out[..k]);
 }
 
 fn main() {
     let mut bytes = [0u8; 49164];
     let mut words = [0u32; 12291];
-    count_input(&mut bytes, &mut words);
+    let mut out = [0u8; 160];
+    run(&mut bytes, &mut words, &mut out);
 }

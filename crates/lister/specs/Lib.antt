@@ -1,3 +1,3 @@
-pub mod Lines
+pub mod Printed
 pub mod Requires
 pub mod Exits

@@ -12,6 +12,6 @@ list-image-spec =
     (λ c κs. search (needs, laws))
     (λ c. search (needs, laws))
     (λ c κs. search (needs, laws))
-    (λ c. search (needs, laws))
     (λ c κs. search (needs, laws))
+    (λ c. search (needs, laws))
     (λ c. search (needs, laws)))
