@@ -16,8 +16,9 @@ use Rattle.reply.specs.declared.Refusal.{Refusal}
 use Rattle.reply.specs.declared.Refusal.the-variants.{BadSizes, BadClock, BadSlot, Duplicate}
 use Rattle.reply.specs.Refusals.{declinedNumber}
 use Rattle.image.specs.declared.header.Header.{Header}
-use Rattle.image.specs.Layout.{mostNumber, filledKind, header, keyAt, slotsOf, widthOf, clockOf, shapeOk, clockOk}
-use Rattle.image.specs.Name.{Name, jobName, nameAt, sameName, unnamed, same-name}
+use Rattle.image.specs.Layout.{mostNumber, jobsBoard, filledKind, header, keyAt, slotsOf, widthOf, clockOf, shapeOk, clockOk}
+use Rattle.image.specs.declared.name.Name.{Name}
+use Rattle.image.specs.Name.{nameAt, sameName, unnamed, same-name, name-is, key-same}
 use Rattle.image.specs.Requires.{Sized, Slot, HeaderFits, slot}
 use Rattle.image.specs.Laws.{shaped}
 use Rattle.chains.specs.Chains.{Under}
@@ -29,7 +30,7 @@ use Rattle.survival.specs.Requires.{SlotMarked, uids, header-in, slot-marked, u
 use Rattle.survival.specs.Laws.{flag-is, uid-at}
 use Rattle.acceptance.specs.Accept.{blankHeader, filledHeader, proper, versionBelow, survivesAs, nameBelow, imageCheck}
 use Rattle.acceptance.specs.Questions.{clockAnswer, survivorsAnswer}
-use Rattle.acceptance.specs.Requires.{headCheck, nameless, slotsCheck, survivorsPast, sameVersion, versionIn, UidChains, UidsAt, VersionOf, KeysUnlinked, KeysAt, KeyOf, uid-chains, uids-at, version-of, keys-small, keys-large, keys-unlinked, key-chains, keys-at, key-of, allProper, someNameless, versionTwice, nameTwice}
+use Rattle.acceptance.specs.Requires.{headCheck, nameless, slotsCheck, survivorsPast, sameVersion, versionIn, UidChains, UidsAt, VersionOf, KeysUnlinked, KeysAt, NameOf, uid-chains, uids-at, version-of, keys-small, keys-large, keys-unlinked, key-chains, keys-at, name-of, allProper, someNameless, versionTwice, nameTwice}
 use Rattle.acceptance.specs.Laws.{image-is, head-sized, image-sized}
 
 -- ---- headers that are proper
@@ -42,9 +43,14 @@ module _ (h : Header) where
   unfolding blankHeader
   blank-epoch a b = rw (eq-eqb (h .kind) 0 a, ne-eqb (h .epoch) 0 b)
 
-  pub blank-rest : h .kind ≡ 0 → h .epoch ≡ 0 → eqb (h .uid) 0 ≡ blankHeader h
-  unfolding blankHeader
-  blank-rest a b = rw (eq-eqb (h .kind) 0 a, eq-eqb (h .epoch) 0 b)
+  module _ (a : h .kind ≡ 0) (b : h .epoch ≡ 0) where
+    pub blank-uid : (h .uid ≡ 0 → ⊥) → false ≡ blankHeader h
+    unfolding blankHeader
+    blank-uid u = rw (eq-eqb (h .kind) 0 a, eq-eqb (h .epoch) 0 b, ne-eqb (h .uid) 0 u)
+
+    pub blank-rest : h .uid ≡ 0 → eqb (h .board) 0 ≡ blankHeader h
+    unfolding blankHeader
+    blank-rest u = rw (eq-eqb (h .kind) 0 a, eq-eqb (h .epoch) 0 b, eq-eqb (h .uid) 0 u)
 
 module _ (c : ℕ) (h : Header) {f : Bool} (fl : f ≡ filledKind (h .kind)) where
   pub filled-no : f ≡ false → false ≡ filledHeader c h
@@ -60,13 +66,18 @@ module _ (c : ℕ) (h : Header) {f : Bool} (fl : f ≡ filledKind (h .kind)) whe
     unfolding filledHeader
     filled-late b = rw (← fl, ft, le-leb 2 (h .epoch) a, lt-leb (h .epoch) c b)
 
-    pub filled-zero : h .epoch ≤ c → h .uid < 1 → false ≡ filledHeader c h
-    unfolding filledHeader
-    filled-zero b d = rw (← fl, ft, le-leb 2 (h .epoch) a, le-leb (h .epoch) c b, lt-leb 1 (h .uid) d)
+    module _ (b : h .epoch ≤ c) where
+      pub filled-zero : h .uid < 1 → false ≡ filledHeader c h
+      unfolding filledHeader
+      filled-zero d = rw (← fl, ft, le-leb 2 (h .epoch) a, le-leb (h .epoch) c b, lt-leb 1 (h .uid) d)
 
-    pub filled-uid : h .epoch ≤ c → 1 ≤ h .uid → leb (h .uid) mostNumber ≡ filledHeader c h
-    unfolding filledHeader
-    filled-uid b d = rw (← fl, ft, le-leb 2 (h .epoch) a, le-leb (h .epoch) c b, le-leb 1 (h .uid) d)
+      pub filled-high : 1 ≤ h .uid → mostNumber < h .uid → false ≡ filledHeader c h
+      unfolding filledHeader
+      filled-high d u = rw (← fl, ft, le-leb 2 (h .epoch) a, le-leb (h .epoch) c b, le-leb 1 (h .uid) d, lt-leb (h .uid) mostNumber u)
+
+      pub filled-board : 1 ≤ h .uid → h .uid ≤ mostNumber → eqb (h .board) jobsBoard ≡ filledHeader c h
+      unfolding filledHeader
+      filled-board d u = rw (← fl, ft, le-leb 2 (h .epoch) a, le-leb (h .epoch) c b, le-leb 1 (h .uid) d, le-leb (h .uid) mostNumber u)
 
 module _ (c : ℕ) (l : List ℕ) (s : ℕ) {h : Header} {b : Bool} (at : h ≡ header l s) (bl : b ≡ blankHeader h) where
   pub proper-blank : b ≡ true → true ≡ proper c (header l s)
@@ -91,17 +102,17 @@ module _ (l : List ℕ) (n w s : ℕ) (flags : List Bool) (z : SlotMarked l n w 
   unfolding nameless
   nameless-no t = rw (flag-is (z .flagged) (z .slot .within) t)
 
-  module _ (key : ℕ) {b : Bool} (same : b ≡ sameName (nameAt l n w s) (jobName key)) where
-    pub as-yes : b ≡ true → getD flags s false ≡ survivesAs l n w (jobName key) s
+  module _ (name : Name) {b : Bool} (same : b ≡ sameName (nameAt l n w s) name) where
+    pub as-yes : b ≡ true → getD flags s false ≡ survivesAs l n w name s
     unfolding survivesAs
     as-yes t = rw (← same, t, flag-is (z .flagged) (z .slot .within) refl) (sym (and-true (getD flags s false)))
 
-    pub as-no : b ≡ false → false ≡ survivesAs l n w (jobName key) s
+    pub as-no : b ≡ false → false ≡ survivesAs l n w name s
     unfolding survivesAs
     as-no t = rw (← same, t) (sym (and-false (survivor l n s)))
 
-  pub below-named : {key : ℕ} {r : Bool} → getD flags s false ≡ true → key ≡ keyAt l n w s → r ≡ anyOf (survivesAs l n w (jobName key)) s → r ≡ nameBelow l n w s
-  unfolding nameBelow nameAt keyAt
+  pub below-named : {name : Name} {r : Bool} → getD flags s false ≡ true → name ≡ nameAt l n w s → r ≡ anyOf (survivesAs l n w name) s → r ≡ nameBelow l n w s
+  unfolding nameBelow
   below-named t e h = rw (flag-is (z .flagged) (z .slot .within) t, ← e) h
 
   pub below-gone : getD flags s false ≡ false → false ≡ nameBelow l n w s
@@ -274,9 +285,9 @@ module _ {l : List ℕ} {n w i : ℕ} {heads₀ below₀ heads below : List ℕ}
 
 -- ---- the walk for a survivor of one name
 -- it has the key of the name
-as-key : (l : List ℕ) (n w : ℕ) (name : Name) (t : ℕ) → survivesAs l n w name t ≡ true → keyAt l n w t ≡ name
-unfolding survivesAs nameAt keyAt
-as-key l n w name t e = same-name (nameAt l n w t) name (and-right (survivor l n t) (sameName (nameAt l n w t) name) e)
+as-key : (l : List ℕ) (n w : ℕ) (name : Name) (t : ℕ) → survivesAs l n w name t ≡ true → keyAt l n w t ≡ name .key
+unfolding survivesAs
+as-key l n w name t e = key-same (sym (name-is l n w t) ∙ same-name (nameAt l n w t) name (and-right (survivor l n t) (sameName (nameAt l n w t) name) e))
 
 pub named-marked : {l : List ℕ} {n w s : ℕ} {flags : List Bool} {below : List ℕ} → KeysAt l n w s flags below → SlotMarked l n w s flags
 named-marked z = slot-marked (z .chains .marked) (z .within)
@@ -284,12 +295,13 @@ named-marked z = slot-marked (z .chains .marked) (z .within)
 pub named-slot : {l : List ℕ} {n w s : ℕ} {flags : List Bool} {below : List ℕ} → KeysAt l n w s flags below → Slot l n w s
 named-slot z = slot (z .chains .marked .sized) (z .within)
 
-module _ {l : List ℕ} {n w s key : ℕ} {flags : List Bool} {below : List ℕ} (z : KeyOf l n w s key flags below) where
+module _ {l : List ℕ} {n w s : ℕ} {name : Name} {flags : List Bool} {below : List ℕ} (z : NameOf l n w s name flags below) where
   pub named-word : s < length below
   named-word = omega (arith, z .at .within, z .at .chains .under .slots)
 
-  pub named-start : {k : ℕ} → k ≡ getD below s 0 → Chased (survivesAs l n w (jobName key)) (keyAt l n w) n key s k
-  named-start e = chased-under (survivesAs l n w (jobName key)) (z .at .chains .under) (z .at .within) (as-key l n w (jobName key)) (z .mine) e
+  pub named-start : {k : ℕ} → k ≡ getD below s 0 → Chased (survivesAs l n w name) (keyAt l n w) n (name .key) s k
+  named-start e =
+      chased-under (survivesAs l n w name) (z .at .chains .under) (z .at .within) (as-key l n w name) (key-same (z .mine ∙ name-is l n w s)) e
 
   pub named-under : Under (keyAt l n w) n n below
   named-under = z .at .chains .under
@@ -298,7 +310,7 @@ module _ {l : List ℕ} {n w s key : ℕ} {flags : List Bool} {below : List ℕ}
   named-below y q = slot-marked (z .at .chains .marked) (omega (arith, chased-slot y q, z .at .within))
 
 -- headers, and the checks of an image
-pub ruleset laws = (tests, firsts, somes, marks, blank-kind, blank-epoch, blank-rest, filled-no, filled-early, filled-late, filled-zero, filled-uid, proper-blank, proper-else, proper-every, nameless-yes, nameless-no, some-nameless, head-shape, head-clock, head-fine, shape-room, slots-improper, slots-nameless, slots-version, slots-named, slots-fine)
+pub ruleset laws = (tests, firsts, somes, marks, blank-kind, blank-epoch, blank-uid, blank-rest, filled-no, filled-early, filled-late, filled-zero, filled-high, filled-board, proper-blank, proper-else, proper-every, nameless-yes, nameless-no, some-nameless, head-shape, head-clock, head-fine, shape-room, slots-improper, slots-nameless, slots-version, slots-named, slots-fine)
 
 -- the whole check, and the questions
 pub ruleset answer-laws = (marks, check-declines, check-goes, check-long, check-sized, clock-declines, clock-goes, image-head, survivors-declines, survivors-goes, past-declines, past-goes)
@@ -307,4 +319,4 @@ pub ruleset answer-laws = (marks, check-declines, check-goes, check-long, check-
 pub ruleset version-laws = (tests, firsts, somes, walks, uids-small, uids-large, uid-chains, uids-at, version-of, version-uid, version-yes, version-no, version-in, below-yes, below-no, version-twice, chains-clock, version-at, version-word, version-start, version-under, version-header)
 
 -- two survivors of one name
-pub ruleset name-laws = (firsts, somes, walks, linking-next, linking-end, keys-small, keys-large, keys-unlinked, key-chains, keys-at, key-of, keys-start, keys-slot, keys-place, as-yes, as-no, below-named, below-gone, name-twice, named-marked, named-slot, named-word, named-start, named-under, named-below)
+pub ruleset name-laws = (firsts, somes, walks, linking-next, linking-end, keys-small, keys-large, keys-unlinked, key-chains, keys-at, name-of, keys-start, keys-slot, keys-place, as-yes, as-no, below-named, below-gone, name-twice, named-marked, named-slot, named-word, named-start, named-under, named-below)

@@ -19,7 +19,7 @@ survivorsAnswer l = byCheck (imageCheck l) declinedNumber (survivorCount l (slot
 
 -- "A byte count that fits no image is refused with 1": no whole words, or more than the largest image has
 unfoldable pub bytesOk : ℕ → Bool
-bytesOk len = eqb (len % 4) 0 && leb len 49164
+bytesOk len = eqb (len % 4) 0 && leb len 53260
 
 unfoldable pub clockOfBytes : List ℕ → ℕ
 clockOfBytes bytes = byCheck (refuse (not (bytesOk (length bytes))) BadSizes (imageCheck (wordsOf bytes))) declinedNumber (clockOf (wordsOf bytes))

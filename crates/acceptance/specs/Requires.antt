@@ -16,6 +16,7 @@ use Rattle.reply.specs.declared.Refusal.the-variants.{BadSizes, BadClock, BadSl
 use Rattle.reply.specs.Refusals.{refuse, byCheck, declinedNumber}
 use Rattle.image.specs.declared.header.Header.{Header}
 use Rattle.image.specs.Layout.{header, keyAt, clockOf, shapeOk, clockOk}
+use Rattle.image.specs.declared.name.Name.{Name}
 use Rattle.image.specs.Name.{nameAt, unnamed}
 use Rattle.image.specs.Requires.{Sized}
 use Rattle.image.specs.Bytes.{Decodes}
@@ -92,15 +93,15 @@ pub record KeysAt (l : List ℕ) (n w s : ℕ) (flags : List Bool) (below : List
   pub chains : KeyChains l n w flags below
   pub within : s < n
 
-pub record KeyOf (l : List ℕ) (n w s key : ℕ) (flags : List Bool) (below : List ℕ) : Type 0 where
+pub record NameOf (l : List ℕ) (n w s : ℕ) (name : Name) (flags : List Bool) (below : List ℕ) : Type 0 where
   pub at : KeysAt l n w s flags below
-  pub mine : key ≡ keyAt l n w s
+  pub mine : name ≡ nameAt l n w s
 
 -- ---- bytes that make whole words, and a buffer for the largest image
 pub record Buffered (bytes words : List ℕ) : Type 0 where
   pub whole : length bytes ≡ 4 * (length bytes / 4)
-  pub few : length bytes ≤ 49164
-  pub long : length words ≡ 12291
+  pub few : length bytes ≤ 53260
+  pub long : length words ≡ 13315
 
 -- ---- how they are made
 pub uid-chains : {l : List ℕ} {n : ℕ} {heads below : List ℕ} → UidsLinked l n heads below → UidChains l n below
@@ -128,16 +129,16 @@ key-chains z y = record { marked = z .marked; under = y .under }
 pub keys-at : {l : List ℕ} {n w s : ℕ} {flags : List Bool} {below : List ℕ} → KeyChains l n w flags below → s < n → KeysAt l n w s flags below
 keys-at z h = record { chains = z; within = h }
 
-pub key-of : {l : List ℕ} {n w s key : ℕ} {flags : List Bool} {below : List ℕ} → KeysAt l n w s flags below → key ≡ keyAt l n w s → KeyOf l n w s key flags below
-key-of z e = record { at = z; mine = e }
+pub name-of : {l : List ℕ} {n w s : ℕ} {name : Name} {flags : List Bool} {below : List ℕ} → KeysAt l n w s flags below → name ≡ nameAt l n w s → NameOf l n w s name flags below
+name-of z e = record { at = z; mine = e }
 
-pub buffered : {bytes words : List ℕ} {b : Bool} → b ≡ bytesOk (length bytes) → b ≡ true → length words ≡ 12291 → Buffered bytes words
+pub buffered : {bytes words : List ℕ} {b : Bool} → b ≡ bytesOk (length bytes) → b ≡ true → length words ≡ 13315 → Buffered bytes words
 unfolding bytesOk
 buffered {bytes} e t long =
-    let z : length bytes % 4 ≡ 0 = eqb-true _ _ (and-left (eqb (length bytes % 4) 0) (leb (length bytes) 49164) (sym e ∙ t)) in
+    let z : length bytes % 4 ≡ 0 = eqb-true _ _ (and-left (eqb (length bytes % 4) 0) (leb (length bytes) 53260) (sym e ∙ t)) in
     record {
       whole = omega (arith, div-add-mod' (length bytes) 4);
-      few = leb-true _ _ (and-right (eqb (length bytes % 4) 0) (leb (length bytes) 49164) (sym e ∙ t));
+      few = leb-true _ _ (and-right (eqb (length bytes % 4) 0) (leb (length bytes) 53260) (sym e ∙ t));
       long = long;
     }
 

@@ -1,7 +1,7 @@
 -- What an accepted image is sure of, slot by slot.
 use Prim.Native.Nat.{ℕ, _≤_, _<_}
 use mathlib.Core.Path.{_≡_, sym, _∙_}
-use mathlib.Core.Bool.{true, false, not, _&&_, _||_}
+use mathlib.Core.Bool.{true, false, not, _||_}
 use mathlib.Core.Logic.{_⊎_, inl, inr, ⊎-elim}
 use mathlib.Core.List.{List}
 use lib.Dec.{leb, eqb}
@@ -13,7 +13,7 @@ use Rattle.reply.specs.declared.Check.the-variants.{Accepted}
 use Rattle.reply.specs.declared.Refusal.the-variants.{BadSizes, BadClock, BadSlot, Duplicate}
 use Rattle.reply.specs.Refusals.{refuse, not-refused, both-accepted}
 use Rattle.image.specs.declared.header.Header.{Header}
-use Rattle.image.specs.Layout.{mostSlots, mostNumber, filledKind, header, slotsOf, widthOf, clockOf, sizesOk, shapeOk, clockOk}
+use Rattle.image.specs.Layout.{mostSlots, mostNumber, jobsBoard, filledKind, header, slotsOf, widthOf, clockOf, sizesOk, shapeOk, clockOk}
 use Rattle.image.specs.Name.{unnamed}
 use Rattle.image.specs.Requires.{Sized}
 use Rattle.acceptance.specs.Accept.{blankHeader, filledHeader, proper, versionBelow, nameBelow, imageCheck}
@@ -49,11 +49,13 @@ pub record FilledOk (c : ℕ) (h : Header) : Type 0 where
   pub epoch-hi : h .epoch ≤ c
   pub uid-lo : 1 ≤ h .uid
   pub uid-hi : h .uid ≤ mostNumber
+  pub board-is : h .board ≡ jobsBoard
 
 pub record FreeOk (h : Header) : Type 0 where
   pub kind-is : h .kind ≡ 0
   pub epoch-is : h .epoch ≡ 0
   pub uid-is : h .uid ≡ 0
+  pub board-is : h .board ≡ 0
 
 filled-ok : (c : ℕ) (h : Header) → filledHeader c h ≡ true → FilledOk c h
 unfolding filledHeader
@@ -63,15 +65,17 @@ filled-ok c h e =
     let b = leb (h .epoch) c in
     let d = leb 1 (h .uid) in
     let u = leb (h .uid) mostNumber in
-    let e1 = and-right k (a && (b && (d && u))) e in
-    let e2 = and-right a (b && (d && u)) e1 in
-    let e3 = and-right b (d && u) e2 in
+    let e1 = and-right k _ e in
+    let e2 = and-right a _ e1 in
+    let e3 = and-right b _ e2 in
+    let e4 = and-right d _ e3 in
     record {
-      filled = and-left k (a && (b && (d && u))) e;
-      epoch-lo = leb-true 2 (h .epoch) (and-left a (b && (d && u)) e1);
-      epoch-hi = leb-true (h .epoch) c (and-left b (d && u) e2);
-      uid-lo = leb-true 1 (h .uid) (and-left d u e3);
-      uid-hi = leb-true (h .uid) mostNumber (and-right d u e3);
+      filled = and-left k _ e;
+      epoch-lo = leb-true 2 (h .epoch) (and-left a _ e1);
+      epoch-hi = leb-true (h .epoch) c (and-left b _ e2);
+      uid-lo = leb-true 1 (h .uid) (and-left d _ e3);
+      uid-hi = leb-true (h .uid) mostNumber (and-left u _ e4);
+      board-is = eqb-true (h .board) jobsBoard (and-right u _ e4);
     }
 
 free-ok : (h : Header) → blankHeader h ≡ true → FreeOk h
@@ -80,11 +84,13 @@ free-ok h e =
     let k = eqb (h .kind) 0 in
     let a = eqb (h .epoch) 0 in
     let u = eqb (h .uid) 0 in
-    let e1 = and-right k (a && u) e in
+    let e1 = and-right k _ e in
+    let e2 = and-right a _ e1 in
     record {
-      kind-is = eqb-true (h .kind) 0 (and-left k (a && u) e);
-      epoch-is = eqb-true (h .epoch) 0 (and-left a u e1);
-      uid-is = eqb-true (h .uid) 0 (and-right a u e1);
+      kind-is = eqb-true (h .kind) 0 (and-left k _ e);
+      epoch-is = eqb-true (h .epoch) 0 (and-left a _ e1);
+      uid-is = eqb-true (h .uid) 0 (and-left u _ e2);
+      board-is = eqb-true (h .board) 0 (and-right u _ e2);
     }
 
 pub proper-cases : (c : ℕ) (h : Header) → proper c h ≡ true → FreeOk h ⊎ FilledOk c h

@@ -22,7 +22,10 @@ pub fn blank_header(h: Header) -> bool
     if h.epoch != 0 {
         return false;
     }
-    h.uid == 0
+    if h.uid != 0 {
+        return false;
+    }
+    h.board == 0
 }
 
 fn filled_header(h: Header, c: u32) -> bool
@@ -38,7 +41,10 @@ fn filled_header(h: Header, c: u32) -> bool
         if h.uid < 1 {
             return false;
         }
-        h.uid <= image::shape::MOST_NUMBER
+        if image::shape::MOST_NUMBER < h.uid {
+            return false;
+        }
+        h.board == Header::JOBS
     } else {
         false
     }

@@ -1,12 +1,12 @@
 // Two survivors of one name. A survivor is held only against the slots of the chain of its key.
+use image::name::Name;
 ghost use mathlib.Core.Path.{_≡_};
 ghost use Rattle.search.specs.Some.{anyOf};
 ghost use Rattle.image.specs.Layout.{keyAt};
-ghost use Rattle.image.specs.Name.{jobName};
 ghost use Rattle.chains.specs.Chains.{Linked};
 ghost use Rattle.survival.specs.Requires.{SlotMarked, AllMarked};
 ghost use Rattle.acceptance.specs.Accept.{survivesAs, nameBelow};
-ghost use Rattle.acceptance.specs.Requires.{KeysUnlinked, KeysRoom, KeyChains, KeysAt, KeyOf, nameTwice};
+ghost use Rattle.acceptance.specs.Requires.{KeysUnlinked, KeysRoom, KeyChains, KeysAt, NameOf, nameTwice};
 
 // The slots by their keys, each linked to the next one below of the same spot.
 fn link_keys(img: &[u32], heads: &mut [u32], below: &mut [u32], n: usize, w: usize)
@@ -21,12 +21,12 @@ fn link_keys(img: &[u32], heads: &mut [u32], below: &mut [u32], n: usize, w: usi
     }
 }
 
-// Does slot `t` survive as the job `key`?
-fn survives_as(img: &[u32], flags: &[bool; 1024], n: usize, w: usize, key: u32, t: usize) -> bool
+// Does slot `t` survive as `name`?
+fn survives_as(img: &[u32], flags: &[bool; 1024], n: usize, w: usize, name: Name, t: usize) -> bool
     requires { ⌜ SlotMarked (now img) n w t (now flags) ⌝ }
-    ensures { λ r. ⌜ r ≡ survivesAs (now (img .entry)) n w (jobName key) t ⌝ }
+    ensures { λ r. ⌜ r ≡ survivesAs (now (img .entry)) n w name t ⌝ }
 {
-    if image::name::named_at(img, n, w, t, key) {
+    if image::name::named_at(img, n, w, t, name) {
         flags[t]
     } else {
         false
@@ -39,15 +39,15 @@ fn survives_below(
     below: &[u32],
     n: usize,
     w: usize,
-    key: u32,
+    name: Name,
     s: usize,
 ) -> bool
-    requires { ⌜ KeyOf (now img) n w s key (now flags) (now below) ⌝ }
-    ensures { λ r. ⌜ r ≡ anyOf (survivesAs (now (img .entry)) n w (jobName key)) s ⌝ }
+    requires { ⌜ NameOf (now img) n w s name (now flags) (now below) ⌝ }
+    ensures { λ r. ⌜ r ≡ anyOf (survivesAs (now (img .entry)) n w name) s ⌝ }
 {
     let mut k = image::shape::wide(below[s]);
     while k != 0 {
-        if survives_as(img, flags, n, w, key, k - 1) {
+        if survives_as(img, flags, n, w, name, k - 1) {
             return true;
         }
         k = image::shape::wide(below[k - 1]);
@@ -67,8 +67,8 @@ fn name_below(
     ensures { λ r. ⌜ r ≡ nameBelow (now (img .entry)) n w s ⌝ }
 {
     if flags[s] {
-        let key = image::contents::key_at(img, n, w, s);
-        survives_below(img, flags, below, n, w, key, s)
+        let name = image::name::name_at(img, n, w, s);
+        survives_below(img, flags, below, n, w, name, s)
     } else {
         false
     }

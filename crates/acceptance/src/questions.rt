@@ -12,7 +12,7 @@ pub fn bytes_ok(len: usize) -> bool
     if len % 4 != 0 {
         return false;
     }
-    len <= 49164
+    len <= 53260
 }
 
 pub fn clock_answer(img: &[u32]) -> u64

@@ -19,7 +19,7 @@ pub extern "C" fn board_clock(bytes: &[u8]) -> u64
     ensures { λ r. ⌜ r ≡ clockOfBytes (now (bytes .entry)) ⌝ }
 {
     if acceptance::questions::bytes_ok(bytes.len()) {
-        let mut words = [0u32; 12291];
+        let mut words = [0u32; 13315];
         clock_in(bytes, &mut words)
     } else {
         reply::declined(Refusal::BadSizes)
@@ -40,7 +40,7 @@ pub extern "C" fn board_survivors(bytes: &[u8]) -> u64
     ensures { λ r. ⌜ r ≡ survivorsOfBytes (now (bytes .entry)) ⌝ }
 {
     if acceptance::questions::bytes_ok(bytes.len()) {
-        let mut words = [0u32; 12291];
+        let mut words = [0u32; 13315];
         survivors_in(bytes, &mut words)
     } else {
         reply::declined(Refusal::BadSizes)

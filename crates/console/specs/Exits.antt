@@ -34,7 +34,7 @@ module _ (bytes : List ℕ) {b : Bool} (ok : b ≡ bytesOk (length bytes)) where
   unfolding inputOf
   taken-count words f = taken-none (rw (← ok, f))
 
-  module _ (words : List ℕ) {words′ : List ℕ} {k : Check} (t : b ≡ true) (long : length words ≡ 12291)
+  module _ (words : List ℕ) {words′ : List ℕ} {k : Check} (t : b ≡ true) (long : length words ≡ 13315)
       (d : words′ ≡ stored words 0 (wordsOf bytes) (length bytes / 4)) (ck : k ≡ imageCheck (take (length bytes / 4) words′)) where
     judged : k ≡ imageCheck (wordsOf bytes)
     judged = ck ∙ ap imageCheck (prefix-is bytes words (buffered ok t long) d)

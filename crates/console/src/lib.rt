@@ -35,7 +35,7 @@ pub fn read_bytes(bytes: &mut [u8]) -> usize
 
 // Decodes the bytes into `words`, which have room for the largest image, and judges them.
 pub fn judge(bytes: &[u8], words: &mut [u32]) -> Input
-    requires { ⌜ length (now words) ≡ 12291 ⌝ }
+    requires { ⌜ length (now words) ≡ 13315 ⌝ }
     ensures { λ r. ⌜ Taken (now (bytes .entry)) r (now (words .exit)) ⌝ }
 {
     if acceptance::questions::bytes_ok(bytes.len()) {

@@ -4,7 +4,7 @@ use mathlib.Core.Path.{_≡_, refl}
 use mathlib.Core.Logic.{Iff·trans}
 use mathlib.Core.List.{[], List·Memᴰ·not-nil}
 use native.Mathlib.Omega.{arith}
-use Rattle.image.specs.Name.{Name}
+use Rattle.image.specs.declared.name.Name.{Name}
 use Rattle.crash.specs.Reference.{Jobs, jobsAt}
 use Rattle.crash.specs.Slots.{Value, State, Visible, Shows, One, Inv}
 use Rattle.crash.specs.Steps.{Start}

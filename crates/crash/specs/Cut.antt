@@ -5,11 +5,12 @@ use mathlib.Core.Logic.{_≢_, _⊎_, inl, inr, _↔_, Iff·trans}
 use mathlib.Core.Option.{some}
 use native.Mathlib.Omega.{arith}
 use native.Mathlib.Decide.{ℕ-discrete, decLe}
-use Rattle.image.specs.Name.{Name, Named}
+use Rattle.image.specs.declared.name.Name.{Name}
+use Rattle.image.specs.Name.{Named}
 use Rattle.crash.specs.Reference.{jobsAt}
 use Rattle.crash.specs.Slots.{Value, Slot, State, SameHead, SameLine, Live, Visible, Shows, Kin, Inv}
 use Rattle.crash.specs.Steps.{Kept, Survives}
-use Rattle.crash.specs.OneSlot.{slotty}
+use Rattle.crash.specs.OneSlot.{slotty, same-named}
 use Rattle.crash.specs.Versions.{kin-cases}
 
 -- a slot that survives shows the job k with the value v
@@ -86,6 +87,10 @@ module _ {st : State} (i : Inv st) {e : ℕ} (c : e + 2 ≡ st .clock) where
   pub cut-line : (s : ℕ) → Survives e (st .slots) s → SameLine (st .slots s .persistent) (st .slots s .working)
   cut-line s h = let k = working s (h .kept) in i .one s .settled-line (k .filled) (omega arith)
 
+  -- .. and so is its name
+  cut-name : (s : ℕ) → Survives e (st .slots) s → st .slots s .persistent .name ≡ st .slots s .working .name
+  cut-name s h = same-named (cut-head s (h .kept)) (cut-line s h)
+
   -- kept versions of one uid have different epochs
   pub cut-versions : (m n : ℕ) → m ≢ n → Kept e (st .slots m .persistent) → Kept e (st .slots n .persistent)
       → st .slots m .persistent .uid ≡ st .slots n .persistent .uid → st .slots m .persistent .epoch ≢ st .slots n .persistent .epoch
@@ -97,21 +102,21 @@ module _ {st : State} (i : Inv st) {e : ℕ} (c : e + 2 ≡ st .clock) where
   -- two survivors have two names
   pub cut-names : (m n : ℕ) → m ≢ n → Survives e (st .slots) m → Survives e (st .slots) n → st .slots m .persistent .name ≢ st .slots n .persistent .name
   cut-names m n d p q k =
-      i .two m n d .disjoint e (cut-survives m .0 p) (cut-survives n .0 q) (sym (cut-line m p .name-is) ∙ k ∙ cut-line n q .name-is)
+      i .two m n d .disjoint e (cut-survives m .0 p) (cut-survives n .0 q) (sym (cut-name m p) ∙ k ∙ cut-name n q)
 
   -- a survivor has a name
   pub cut-named : (s : ℕ) → Survives e (st .slots) s → Named (st .slots s .persistent .name)
-  cut-named s h k = i .one s .named (working s (h .kept) .filled) (sym (cut-line s h .name-is) ∙ k)
+  cut-named s h k = i .one s .named (working s (h .kept) .filled) (sym (cut-line s h .key-is) ∙ k)
 
   -- the survivors' names and values are what is shown at e
   holds : (k : Name) (v : Value) → CutShows e (st .slots) k v ↔ Shows (st .slots) e k v
   holds k v = (
     λ a. let q = cut-line (a .at) (a .survives) in
         let w = cut-survives (a .at) .0 (a .survives) in
-        record { at = a .at; holds = record { visible = w; name-is = sym (q .name-is) ∙ a .name-is; value-is = sym (q .value-is) ∙ a .value-is } },
+        record { at = a .at; holds = record { visible = w; name-is = sym (cut-name (a .at) (a .survives)) ∙ a .name-is; value-is = sym (q .value-is) ∙ a .value-is } },
     λ a. let h = cut-survives (a .at) .1 (a .holds .visible) in
         let q = cut-line (a .at) h in
-        record { at = a .at; survives = h; name-is = q .name-is ∙ a .holds .name-is; value-is = q .value-is ∙ a .holds .value-is },
+        record { at = a .at; survives = h; name-is = cut-name (a .at) h ∙ a .holds .name-is; value-is = q .value-is ∙ a .holds .value-is },
   )
 
   -- .. and those of the reference map at e

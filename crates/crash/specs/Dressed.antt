@@ -2,7 +2,7 @@
 use Prim.Native.Nat.{ℕ, _≤_}
 use mathlib.Core.Path.{_≡_}
 use mathlib.Core.Logic.{_↔_}
-use Rattle.image.specs.Name.{Name}
+use Rattle.image.specs.declared.name.Name.{Name}
 use Rattle.crash.specs.Table.{Pairwise, Every, Any}
 use Rattle.crash.specs.Slots.{Value, Entry, Slot, Shows, Two, Next}
 

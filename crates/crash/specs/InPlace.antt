@@ -45,7 +45,7 @@ module _ {kind : ℕ} {w : Value} {e r now before : ℕ} {st : State} {g : ℕ �
       let one = i .one r in
       in-place-inv i t
       (record { epoch-is = λ _. t .epoch-is; name-is = λ _. refl })
-      (let p = one .proper in omega (arith, p .epoch-lo (t .of .payload .0), p .uid-lo (t .of .payload .0)))
+      (let p = one .proper in omega (arith, p .epoch-lo (t .of .payload .0), p .uid-lo (t .of .payload .0), p .board-is (t .of .payload .0)))
       (one .uid-below)
       tells
       (λ m h p q u. let a = current-newest i (t .of) m h p u in search arith)

@@ -9,7 +9,8 @@ use lib.Dec.{leb}
 use native.Mathlib.Omega.{arith}
 use native.Mathlib.Decide.{decLe}
 use borrow.Author.Tests.{le-leb, lt-leb}
-use Rattle.image.specs.Name.{Name, sameName, name-same, name-other, name-dec}
+use Rattle.image.specs.declared.name.Name.{Name}
+use Rattle.image.specs.Name.{sameName, name-same, name-other, name-dec}
 use Rattle.crash.specs.Reference.{Jobs, Change, jobsAt}
 use Rattle.crash.specs.Slots.{Value, UpTo}
 

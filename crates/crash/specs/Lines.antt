@@ -15,12 +15,12 @@ module _ {x w p : Entry} where
   same-head (inl q) h = q
   same-head (inr q) h =
       let r = h (q .epoch-is) in
-      record { kind-is = q .kind-is ∙ r .kind-is; epoch-is = q .epoch-is ∙ r .epoch-is; uid-is = q .uid-is ∙ r .uid-is }
+      record { kind-is = q .kind-is ∙ r .kind-is; epoch-is = q .epoch-is ∙ r .epoch-is; uid-is = q .uid-is ∙ r .uid-is; board-is = q .board-is ∙ r .board-is }
 
   -- the same of contents
   same-line : SameLine x w ⊎ SameLine x p → SameLine p w → SameLine x w
   same-line (inl q) r = q
-  same-line (inr q) r = record { name-is = q .name-is ∙ r .name-is; value-is = q .value-is ∙ r .value-is }
+  same-line (inr q) r = record { key-is = q .key-is ∙ r .key-is; value-is = q .value-is ∙ r .value-is }
 
   -- where both wait, so does an entry with a header of the one or the other
   waits-head : {c : ℕ} {a : Slot} → SameHead x w ⊎ SameHead x p → Waits c w a → Waits c p a → Waits c x a

@@ -3,7 +3,7 @@ use Prim.Native.Nat.{ℕ, suc, _≤_}
 use mathlib.Core.Path.{_≡_, refl, _∙_}
 use mathlib.Core.Option.{some}
 use native.Mathlib.Omega.{arith}
-use Rattle.image.specs.Name.{Name}
+use Rattle.image.specs.declared.name.Name.{Name}
 use Rattle.crash.specs.Slots.{Value, Slot, State, Payload, Inv}
 use Rattle.crash.specs.Steps.{entry, filled, after, New}
 use Rattle.crash.specs.OneSlot.{slotty}
@@ -25,7 +25,7 @@ module _ {e s : ℕ} {k : Name} {v : Value} {now before : ℕ} {st : State} {g :
     joins = t .joins;
     was = record { epoch-is = λ h. absurd (omega arith); name-is = λ h. absurd (omega arith) };
     own = record { epoch-is = λ _. refl; name-is = λ _. refl };
-    proper = omega arith;
+    proper = omega (arith, t .board-is);
     named = t .named;
     uid-below = omega arith;
     not-retired = refl;

@@ -4,7 +4,8 @@ use mathlib.Core.Path.{_≡_}
 use mathlib.Core.Logic.{_≢_, inl, inr}
 use native.Mathlib.Omega.{arith}
 use native.Mathlib.Decide.{ℕ-discrete}
-use Rattle.crash.specs.Slots.{Entry, Slot, Proper, SameHead, Live, Waits, Flushed, Underway}
+use Rattle.image.specs.Name.{names-meet}
+use Rattle.crash.specs.Slots.{Entry, Slot, Proper, SameHead, SameLine, Live, Waits, Flushed, Underway}
 use Rattle.crash.specs.Steps.{atRest}
 
 -- `Live` as a linear statement, so that omega reads it and proves it
@@ -21,7 +22,11 @@ pub ruleset slotty = (arith, live-num, num-live)
 
 -- an entry with the header of a proper one is proper
 pub same-proper : {c : ℕ} {x y : Entry} → SameHead x y → Proper c y → Proper c x
-same-proper q p = rw (q .kind-is, q .epoch-is, q .uid-is) (search)
+same-proper q p = rw (q .kind-is, q .epoch-is, q .uid-is, q .board-is) (search)
+
+-- a header and contents make the name
+pub same-named : {x y : Entry} → SameHead x y → SameLine x y → x .name ≡ y .name
+same-named h l = names-meet (h .board-is) (l .key-is)
 
 -- an old entry waits in no list
 pub old-waits : {c : ℕ} {x : Entry} {a : Slot} → x .epoch + 2 ≤ c → Waits c x a

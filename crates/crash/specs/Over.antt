@@ -4,7 +4,7 @@ use mathlib.Core.Path.{_≡_, refl, sym}
 use mathlib.Core.Logic.{_≢_, _⊎_, inl, inr, _↔_}
 use mathlib.Core.Option.{Option, some}
 use native.Mathlib.Omega.{arith}
-use Rattle.image.specs.Name.{Name}
+use Rattle.image.specs.declared.name.Name.{Name}
 use Rattle.crash.specs.Table.{Any, every-put2, pairwise-put2, any-first, any-second, any-keep2, any-case2}
 use Rattle.crash.specs.Laws.{late-snoc, shown-step}
 use Rattle.crash.specs.Slots.{Value, Entry, Slot, State, Visible, Sees, Shows, One, Underway, Two, Next, Inv}
@@ -44,7 +44,7 @@ module _ {kind e s r : ℕ} {v : Value} {u : Option Value} {now before : ℕ} {s
         joins = t .joins;
         was = record { epoch-is = λ h. absurd (omega arith); name-is = λ h. absurd (omega arith) };
         own = record { epoch-is = λ _. refl; name-is = λ _. refl };
-        proper = omega (arith, outcome-kind (t .outcome), one .proper .uid-lo (t .of .payload .0));
+        proper = omega (arith, outcome-kind (t .outcome), one .proper .uid-lo (t .of .payload .0), one .proper .board-is (t .of .payload .0));
         named = one .named (t .of .payload .0);
         uid-below = one .uid-below;
         not-retired = refl;

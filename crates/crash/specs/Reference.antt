@@ -6,7 +6,8 @@ use mathlib.Core.List.{List, [], _∷_}
 use mathlib.Core.Option.{Option}
 use mathlib.Core.Bool.{cond}
 use lib.Dec.{leb}
-use Rattle.image.specs.Name.{Name, sameName}
+use Rattle.image.specs.declared.name.Name.{Name}
+use Rattle.image.specs.Name.{sameName}
 
 -- one entry of the row: `epoch` is its operation's; "new and set give the key the value, delete takes it away"
 pub record Change : Type 0 where

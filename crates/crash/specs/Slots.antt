@@ -4,8 +4,9 @@ use mathlib.Core.Path.{_≡_}
 use mathlib.Core.Logic.{_≢_, _⊎_, _↔_}
 use mathlib.Core.List.{List, List·Memᴰ}
 use mathlib.Core.Option.{some}
-use Rattle.image.specs.Layout.{mostNumber}
-use Rattle.image.specs.Name.{Name, Named, name-same}
+use Rattle.image.specs.Layout.{mostNumber, jobsBoard}
+use Rattle.image.specs.declared.name.Name.{Name}
+use Rattle.image.specs.Name.{Named}
 use Rattle.crash.specs.Table.{Pairwise, Every, Any}
 use Rattle.crash.specs.Reference.{Jobs, Change, jobsAt}
 
@@ -51,23 +52,27 @@ Filled x = 1 ≤ x .kind
 abbrev pub Payload : Entry → Type 0
 Payload x = (1 ≤ x .kind) × (x .kind ≤ 2)
 
--- three zeros, or "a label from 2 to the clock and a uid from 1 to 4,000,000,000"
+-- four zeros, or "a label from 2 to the clock and a uid from 1 to 4,000,000,000", and the board of jobs
 pub record Proper (c : ℕ) (x : Entry) : Type 0 where
   pub kind-hi : x .kind ≤ 3
   pub free-epoch : x .kind ≡ 0 → x .epoch ≡ 0
   pub free-uid : x .kind ≡ 0 → x .uid ≡ 0
+  pub free-board : x .kind ≡ 0 → x .name .board ≡ 0
   pub epoch-lo : 1 ≤ x .kind → 2 ≤ x .epoch
   pub epoch-hi : x .epoch ≤ c
   pub uid-lo : 1 ≤ x .kind → 1 ≤ x .uid
   pub uid-hi : x .uid ≤ mostNumber
+  pub board-is : 1 ≤ x .kind → x .name .board ≡ jobsBoard
 
+-- the board of a name stands in the header, its key in the contents
 pub record SameHead (x y : Entry) : Type 0 where
   pub kind-is : x .kind ≡ y .kind
   pub epoch-is : x .epoch ≡ y .epoch
   pub uid-is : x .uid ≡ y .uid
+  pub board-is : x .name .board ≡ y .name .board
 
 pub record SameLine (x y : Entry) : Type 0 where
-  pub name-is : x .name ≡ y .name
+  pub key-is : x .name .key ≡ y .name .key
   pub value-is : x .value ≡ y .value
 
 -- ---- what is visible at a threshold

@@ -4,8 +4,9 @@ use mathlib.Core.Path.{_≡_}
 use mathlib.Core.Logic.{_≢_, _⊎_, _↔_}
 use mathlib.Core.Option.{Option, none, some}
 use mathlib.Core.List.{[], _∷_, _++_}
-use Rattle.image.specs.Layout.{mostNumber}
-use Rattle.image.specs.Name.{Name, Named}
+use Rattle.image.specs.Layout.{mostNumber, jobsBoard}
+use Rattle.image.specs.declared.name.Name.{Name}
+use Rattle.image.specs.Name.{nameOf, Named}
 use Rattle.crash.specs.Table.{Put, Put2, Pairwise}
 use Rattle.crash.specs.Slots.{Value, Entry, Slot, Place, State, Filled, Payload, Proper, SameHead, SameLine, Shows, Swept, Flushed}
 
@@ -14,10 +15,10 @@ entry k e u n v = record { kind = k; epoch = e; uid = u; name = n; value = v }
 
 -- the header h with the contents x
 abbrev pub headed : Entry → Entry → Entry
-headed h x = entry (h .kind) (h .epoch) (h .uid) (x .name) (x .value)
+headed h x = entry (h .kind) (h .epoch) (h .uid) (nameOf (h .name .board) (x .name .key)) (x .value)
 
 abbrev pub freed : Entry → Entry
-freed x = entry 0 0 0 (x .name) (x .value)
+freed x = entry 0 0 0 (nameOf 0 (x .name .key)) (x .value)
 
 -- ---- slots after a change
 -- the working entry is x, not retired, with the two waiting words
@@ -85,6 +86,7 @@ pub record New (e s : ℕ) (k : Name) (v : Value) (now before : ℕ) (st : State
   pub joins : Joins (st .clock) e now before (st .slots s)
   pub free : st .slots s .working .kind ≡ 0
   pub named : Named k
+  pub board-is : k .board ≡ jobsBoard
   pub uid-hi : st .uid ≤ mostNumber
   pub no-live : (m : ℕ) → Payload (st .slots m .working) → st .slots m .working .name ≡ k → 1 ≤ st .slots m .retired
   pub no-later : (m : ℕ) → Filled (st .slots m .working) → st .slots m .working .name ≡ k → st .slots m .working .epoch ≤ e

@@ -5,7 +5,7 @@ use mathlib.Core.Logic.{_↔_, Iff·trans}
 use mathlib.Core.Option.{some}
 use native.Mathlib.Omega.{arith}
 use native.Mathlib.Decide.{decLe}
-use Rattle.image.specs.Name.{Name}
+use Rattle.image.specs.declared.name.Name.{Name}
 use Rattle.crash.specs.Reference.{jobsAt}
 use Rattle.crash.specs.Slots.{Value, Entry, Slot, State, Proper, Visible, Shows, One, Inv}
 use Rattle.crash.specs.Steps.{ticked, tickedState, Tick}

@@ -5,7 +5,8 @@ use mathlib.Core.Logic.{_≢_, _⊎_, inl, inr, _↔_}
 use mathlib.Core.Option.{Option, none, some}
 use native.Mathlib.Omega.{arith}
 use native.Mathlib.Decide.{ℕ-discrete}
-use Rattle.image.specs.Name.{Name, Named}
+use Rattle.image.specs.declared.name.Name.{Name}
+use Rattle.image.specs.Name.{Named}
 use Rattle.crash.specs.Table.{Put, Any, every-put, pairwise-put, any-new, any-keep, any-case}
 use Rattle.crash.specs.Laws.{late-snoc, shown-step}
 use Rattle.crash.specs.Slots.{Value, Entry, Slot, State, Filled, Payload, Proper, Visible, Sees, Shows, One, Underway, Kin, Two, Next, Inv}
@@ -85,7 +86,7 @@ module _ {e s uid : ℕ} {k : Name} {v : Option Value} {x : Entry} {retired now 
       let w = i .one s in record {
         proper = t .proper;
         uid-below = t .uid-below;
-        named = λ h q. t .named (sym (t .own .name-is h) ∙ q);
+        named = λ h. rw (t .own .name-is h) (t .named);
         retired-hi = omega arith;
         retired-lo = λ h. omega arith;
         retired-of = λ h. absurd (omega arith);

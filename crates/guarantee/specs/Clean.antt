@@ -14,7 +14,8 @@ use Rattle.search.specs.Bools.{never, and-left, and-right, and-both}
 use Rattle.search.specs.Some.{some-at}
 use Rattle.reply.specs.declared.Check.the-variants.{Accepted}
 use Rattle.image.specs.Layout.{filledKind, payloadKind, header, contents, valueAt, slotsOf, widthOf, clockOf, freeHeader}
-use Rattle.image.specs.Name.{Name, nameAt}
+use Rattle.image.specs.declared.name.Name.{Name}
+use Rattle.image.specs.Name.{nameAt}
 use Rattle.image.specs.Laws.{name-contents, value-contents}
 use Rattle.transient.specs.declared.sizes.Sizes.{Sizes}
 use Rattle.transient.specs.Layout.{threadsOf, threadsOk, note, nextUidAt, phaseAt, placeAt, openEpoch, retiredIn, blank}

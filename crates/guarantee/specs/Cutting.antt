@@ -11,7 +11,8 @@ use Rattle.search.specs.Bools.{refuted, and-left, and-right}
 use Rattle.search.specs.Some.{some-one}
 use Rattle.reply.specs.declared.Check.the-variants.{Accepted}
 use Rattle.image.specs.Layout.{header, contents, valueAt, clockOf}
-use Rattle.image.specs.Name.{Name, nameAt, same-name, unnamed-true}
+use Rattle.image.specs.declared.name.Name.{Name}
+use Rattle.image.specs.Name.{nameAt, same-name, unnamed-true}
 use Rattle.image.specs.Laws.{name-contents, value-contents}
 use Rattle.transient.specs.declared.sizes.Sizes.{Sizes}
 use Rattle.transient.specs.Store.{Store}

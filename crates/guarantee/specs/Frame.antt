@@ -10,7 +10,7 @@ use borrow.Author.Tests.{le-leb, ne-eqb}
 use native.Mathlib.Omega.{arith}
 use Rattle.search.specs.Bools.{flag, never, and-both}
 use Rattle.image.specs.declared.header.Header.{Header}
-use Rattle.image.specs.Name.{Name}
+use Rattle.image.specs.declared.name.Name.{Name}
 use Rattle.transient.specs.declared.sizes.Sizes.{Sizes}
 use Rattle.transient.specs.Store.{Store, store}
 use Rattle.transient.specs.Layout.{note, nextUidAt, phaseAt, placeAt, openEpoch, isWaiting}

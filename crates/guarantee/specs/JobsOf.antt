@@ -13,7 +13,8 @@ use Rattle.search.specs.declared.Found.{Found}
 use Rattle.search.specs.declared.Found.the-variants.{At, Nothing}
 use Rattle.reply.specs.declared.Check.the-variants.{Accepted}
 use Rattle.image.specs.Layout.{valueAt, slotsOf, widthOf}
-use Rattle.image.specs.Name.{Name, nameAt, same-name, name-same}
+use Rattle.image.specs.declared.name.Name.{Name}
+use Rattle.image.specs.Name.{nameAt, same-name, name-same}
 use Rattle.survival.specs.Survivors.{survivor}
 use Rattle.acceptance.specs.Accept.{survivesAs, imageCheck}
 use Rattle.recovery.specs.Steps.{SameSurvivors, survivors-apart, survives-same}

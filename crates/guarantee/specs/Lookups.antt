@@ -15,7 +15,8 @@ use Rattle.search.specs.Ring.{firstRound, round-found}
 use Rattle.search.specs.declared.Found.{Found}
 use Rattle.search.specs.declared.Found.the-variants.{At, Nothing}
 use Rattle.image.specs.Layout.{payloadKind, header}
-use Rattle.image.specs.Name.{Name, nameAt, same-name, name-same}
+use Rattle.image.specs.declared.name.Name.{Name}
+use Rattle.image.specs.Name.{nameAt, same-name, name-same}
 use Rattle.image.specs.Laws.{name-contents}
 use Rattle.transient.specs.declared.sizes.Sizes.{Sizes}
 use Rattle.transient.specs.Layout.{note, lastAt, retiredIn}

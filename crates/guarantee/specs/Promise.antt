@@ -8,7 +8,8 @@ use mathlib.Core.Option.{none, some}
 use Rattle.search.specs.First.{firstOf, whereFound}
 use Rattle.reply.specs.declared.Check.the-variants.{Accepted}
 use Rattle.image.specs.Layout.{slotsOf, widthOf, clockOf, valueAt}
-use Rattle.image.specs.Name.{Name, nameAt}
+use Rattle.image.specs.declared.name.Name.{Name}
+use Rattle.image.specs.Name.{nameAt}
 use Rattle.transient.specs.Store.{Store}
 use Rattle.survival.specs.Survivors.{survivor}
 use Rattle.acceptance.specs.Accept.{survivesAs}

@@ -13,7 +13,8 @@ use Rattle.search.specs.declared.Found.the-variants.{At, Nothing}
 use Rattle.reply.specs.declared.Refusal.the-variants.{Full}
 use Rattle.image.specs.declared.header.Header.{Header}
 use Rattle.image.specs.Layout.{headerOf, header}
-use Rattle.image.specs.Name.{Name, jobName}
+use Rattle.image.specs.declared.name.Name.{Name}
+use Rattle.image.specs.Name.{jobName}
 use Rattle.transient.specs.declared.sizes.Sizes.{Sizes}
 use Rattle.transient.specs.Layout.{note, lastAt, nextUidAt, openEpoch, isWaiting, setRetired}
 use Rattle.transient.specs.Store.{Store, store, table}

@@ -7,7 +7,8 @@ use lib.Dec.{eqb}
 use Rattle.reply.specs.declared.Check.{Check}
 use Rattle.reply.specs.Refusals.{byCheck}
 use Rattle.image.specs.Layout.{slotsOf, clockOf}
-use Rattle.image.specs.Name.{Name, jobName}
+use Rattle.image.specs.declared.name.Name.{Name}
+use Rattle.image.specs.Name.{jobName}
 use Rattle.transient.specs.Store.{Store, Outcome}
 use Rattle.begin_end.specs.Operation.{begin, end}
 use Rattle.jobs.specs.Job.{Job}

@@ -51,7 +51,7 @@ fn count_image(out: &mut [u8], img: &[u32]) -> usize
 
 // What is printed of the bytes that were read.
 fn count_bytes(out: &mut [u8], bytes: &[u8], words: &mut [u32]) -> usize
-    requires { ⌜ length (now words) ≡ 12291 ⌝ }
+    requires { ⌜ length (now words) ≡ 13315 ⌝ }
     requires { ⌜ 160 ≤ length (now out) ⌝ }
     ensures { λ r. ⌜ Spelt (now (out .entry)) (printedCount (now (bytes .entry))) (now (out .exit)) r ⌝ }
 {
@@ -62,7 +62,7 @@ fn count_bytes(out: &mut [u8], bytes: &[u8], words: &mut [u32]) -> usize
 }
 
 fn run(bytes: &mut [u8], words: &mut [u32], out: &mut [u8])
-    requires { ⌜ length (now words) ≡ 12291 ⌝ }
+    requires { ⌜ length (now words) ≡ 13315 ⌝ }
     requires { ⌜ 160 ≤ length (now out) ⌝ }
 {
     let n = console::read_bytes(bytes);
@@ -71,8 +71,8 @@ fn run(bytes: &mut [u8], words: &mut [u32], out: &mut [u8])
 }
 
 fn main() {
-    let mut bytes = [0u8; 49164];
-    let mut words = [0u32; 12291];
+    let mut bytes = [0u8; 53260];
+    let mut words = [0u32; 13315];
     let mut out = [0u8; 160];
     run(&mut bytes, &mut words, &mut out);
 }

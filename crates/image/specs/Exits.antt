@@ -6,26 +6,28 @@ use mathlib.Core.Bool.{Bool, true, false}
 use mathlib.Core.Logic.{⊎-elim}
 use lib.ListN.{length, getD, set, take, drop}
 use lib.Dec.{eqb}
+use borrow.Author.Tests.{eq-eqb, ne-eqb}
 use native.Mathlib.Omega.{arith}
 use mir.Val.{Fits}
 use mir.Syntax.{w64}
 use Rattle.search.specs.Bools.{cases, tests}
 use Rattle.image.specs.declared.header.Header.{Header}
+use Rattle.image.specs.declared.name.Name.{Name}
 use Rattle.image.specs.Layout.{headerAt, contentsAt, imageWords, headerOf, header, contents, keyAt, slotsOf, widthOf, sizesOk, shapeOk}
 use Rattle.image.specs.Line.{headerLine, contentsLine, clockLine, stored, storeLine}
-use Rattle.image.specs.Name.{jobName, nameAt, sameName}
-use Rattle.image.specs.Requires.{kindAt, epochAt, uidAt, InRange, Slot, SlotOf, Slots, SlotLine, slot, header-fits, slot-of}
+use Rattle.image.specs.Name.{nameOf, nameAt, sameName}
+use Rattle.image.specs.Requires.{kindAt, epochAt, uidAt, boardAt, InRange, Slot, SlotOf, Slots, SlotLine, slot, header-fits, slot-of}
 use Rattle.image.specs.Bytes.{wordsOf, Byte, InWords, Decodes, words-at}
 use Rattle.image.specs.Laws.{area-top, sizes-true, shaped, length-contents, part-is}
 use Rattle.image.specs.Storing.{storings}
 
 -- ---- headers
-pub header-is : (l : List ℕ) (s : ℕ) → headerOf (kindAt l s) (epochAt l s) (uidAt l s) ≡ header l s
+pub header-is : (l : List ℕ) (s : ℕ) → headerOf (kindAt l s) (epochAt l s) (uidAt l s) (boardAt l s) ≡ header l s
 unfolding header
 header-is l s = refl
 
 pub header-stored : (l : List ℕ) (s : ℕ) (h : Header)
-    → set (set (set l (headerAt s) (h .kind)) (headerAt s + 1) (h .epoch)) (headerAt s + 2) (h .uid) ≡ storeLine l (headerLine s h)
+    → set (set (set (set l (headerAt s) (h .kind)) (headerAt s + 1) (h .epoch)) (headerAt s + 2) (h .uid)) (headerAt s + 3) (h .board) ≡ storeLine l (headerLine s h)
 unfolding storeLine stored
 header-stored l s h = let first : headerAt s + 0 ≡ headerAt s = omega arith in rw first
 
@@ -67,9 +69,18 @@ pub part-copied : (a d : List ℕ) (n w s : ℕ) {b : ℕ} {d′ : List ℕ} →
 part-copied a d n w s e h = h ∙ ap (λ (x : List ℕ). storeLine d (contentsLine n w s x)) (part-is a n w s e)
 
 -- ---- names
-pub name-is : (l : List ℕ) (n w s key : ℕ) {k : ℕ} → k ≡ keyAt l n w s → eqb k key ≡ sameName (nameAt l n w s) (jobName key)
-unfolding sameName nameAt keyAt
-name-is l n w s key e = rw e
+pub name-made : (l : List ℕ) (n w s : ℕ) {b k : ℕ} → b ≡ boardAt l s → k ≡ keyAt l n w s → nameOf b k ≡ nameAt l n w s
+unfolding nameAt keyAt header
+name-made l n w s b k = rw (b, k)
+
+module _ (l : List ℕ) (n w s : ℕ) (name : Name) {k : ℕ} (is : k ≡ keyAt l n w s) where
+  pub named-board : {b : ℕ} → k ≡ name .key → b ≡ boardAt l s → eqb b (name .board) ≡ sameName (nameAt l n w s) name
+  unfolding sameName nameAt keyAt header
+  named-board q b = rw (← is, ← b, eq-eqb k (name .key) q)
+
+  pub named-other : (k ≡ name .key → ⊥) → false ≡ sameName (nameAt l n w s) name
+  unfolding sameName nameAt keyAt
+  named-other q = rw (← is, ne-eqb k (name .key) q)
 
 -- ---- the clock
 pub clock-stored : (l : List ℕ) (c : ℕ) → set l 2 c ≡ storeLine l (clockLine c)
@@ -80,7 +91,7 @@ clock-stored l c = refl
 pub area-fits : (n w : ℕ) → InRange n w → Fits w64 (w * n)
 area-fits n w z = omega (arith, area-top z)
 
-pub whole-fits : (n w : ℕ) → InRange n w → Fits w64 (3 + 3 * n + w * n)
+pub whole-fits : (n w : ℕ) → InRange n w → Fits w64 (imageWords n w)
 whole-fits n w z = omega (arith, area-top z)
 
 pub shape-short : (l : List ℕ) → length l < 3 → false ≡ shapeOk l
@@ -107,4 +118,4 @@ word-made bytes k i z a b c d = rw (a .same, b .same, c .same, d .same) (words-a
 pub in-words : {bytes words : List ℕ} {k i : ℕ} → Decodes bytes words k → i < k → InWords bytes k i
 in-words z h = record { whole = z .whole; below = h }
 
-pub ruleset laws = (tests, storings, slot, header-fits, slot-of, header-is, header-stored, contents-fits, contents-top, key-in, key-is, line-room, line-slot, contents-stored, part-end, part-slot, part-line, part-copied, name-is, clock-stored, area-fits, whole-fits, sizes-true, shape-short, shape-sizes, shape-long, in-words, word-made)
+pub ruleset laws = (tests, storings, slot, header-fits, slot-of, header-is, header-stored, contents-fits, contents-top, key-in, key-is, line-room, line-slot, contents-stored, part-end, part-slot, part-line, part-copied, name-made, named-board, named-other, clock-stored, area-fits, whole-fits, sizes-true, shape-short, shape-sizes, shape-long, in-words, word-made)

@@ -15,8 +15,8 @@ use Rattle.search.specs.Bools.{and-left, and-right}
 use Rattle.image.specs.declared.header.Header.{Header}
 use Rattle.image.specs.Layout.{mostSlots, headerWords, headerAt, contentsAt, imageWords, header, contents, keyAt, valueAt, slotsOf, widthOf, clockOf, sizesOk, shapeOk}
 use Rattle.image.specs.Line.{Line, headerLine, contentsLine, clockLine, stored, storeLine}
-use Rattle.image.specs.Name.{nameAt}
-use Rattle.image.specs.Requires.{kindAt, epochAt, uidAt, InRange, Sized, Slot, HeaderFits, room-of}
+use Rattle.image.specs.Name.{nameOf, nameAt, name-is}
+use Rattle.image.specs.Requires.{kindAt, epochAt, uidAt, boardAt, InRange, Sized, Slot, HeaderFits, room-of}
 
 -- ---- an image of the right shape has its sizes
 pub area-top : {n w : ℕ} → InRange n w → w * n ≤ 9 * mostSlots
@@ -145,6 +145,7 @@ header-apart l k s o =
       kind = word-apart l k (headerAt s) (⊎-elim (λ h. inl (omega arith)) (λ h. inr (omega arith)) o) i;
       epoch = word-apart l k (headerAt s + 1) (⊎-elim (λ h. inl (omega arith)) (λ h. inr (omega arith)) o) i;
       uid = word-apart l k (headerAt s + 2) (⊎-elim (λ h. inl (omega arith)) (λ h. inr (omega arith)) o) i;
+      board = word-apart l k (headerAt s + 3) (⊎-elim (λ h. inl (omega arith)) (λ h. inr (omega arith)) o) i;
     }
 
 pub header-same : {l : List ℕ} {n s : ℕ} (h : Header) → HeaderFits l n s → header (storeLine l (headerLine s h)) s ≡ h
@@ -154,7 +155,8 @@ header-same {l} {n} {s} h z =
     let k : kindAt (storeLine l (headerLine s h)) s ≡ h .kind = rw first at (word-in l (headerLine s h) 0 (omega arith) (omega (arith, z .long))) in
     let e : epochAt (storeLine l (headerLine s h)) s ≡ h .epoch = word-in l (headerLine s h) 1 (omega arith) (omega (arith, z .long)) in
     let u : uidAt (storeLine l (headerLine s h)) s ≡ h .uid = word-in l (headerLine s h) 2 (omega arith) (omega (arith, z .long)) in
-    λ i. record { kind = k i; epoch = e i; uid = u i }
+    let b : boardAt (storeLine l (headerLine s h)) s ≡ h .board = word-in l (headerLine s h) 3 (omega arith) (omega (arith, z .long)) in
+    λ i. record { kind = k i; epoch = e i; uid = u i; board = b i }
 
 pub header-other : (l : List ℕ) (s t : ℕ) (h : Header) → t ≢ s → header (storeLine l (headerLine s h)) t ≡ header l t
 header-other l s t h d =
@@ -244,7 +246,6 @@ value-contents l n w s h =
     ap (λ k. drop 1 (take k (drop (contentsAt n w s) l))) e ∙ drop-take (w - 1) (drop (contentsAt n w s) l) in
     sym (d ∙ ap (take (w - 1)) (drop-drop 1 (contentsAt n w s) l))
 
--- the name of a slot, by its contents
-pub name-contents : (l : List ℕ) (n w s : ℕ) → 1 ≤ w → nameAt l n w s ≡ getD (contents l n w s) 0 0
-unfolding nameAt keyAt
-name-contents l n w s h = key-contents l n w s h
+-- the name of a slot, by its header and its contents
+pub name-contents : (l : List ℕ) (n w s : ℕ) → 1 ≤ w → nameAt l n w s ≡ nameOf (header l s .board) (getD (contents l n w s) 0 0)
+name-contents l n w s h = name-is l n w s ∙ ap (nameOf (header l s .board)) (key-contents l n w s h)

@@ -15,9 +15,9 @@ mostNumber = 4000000000
 
 -- ---- where words stand
 
--- "N marks of three words: kind, label, uid."
+-- "a mark gains a fourth word": kind, label, uid, board (02, No. 2)
 abbrev pub headerWords : ℕ
-headerWords = 3
+headerWords = 4
 
 abbrev pub headerAt : ℕ → ℕ
 headerAt s = 3 + headerWords * s
@@ -26,27 +26,32 @@ headerAt s = 3 + headerWords * s
 abbrev pub contentsAt : ℕ → ℕ → ℕ → ℕ
 contentsAt n w s = 3 + headerWords * n + w * s
 
--- "The length is exactly 3 + 3N + WN words."
+-- "an image has 3 + 4N + WN words"
 abbrev pub imageWords : ℕ → ℕ → ℕ
 imageWords n w = 3 + headerWords * n + w * n
 
 -- ---- headers
 
-abbrev pub headerOf : ℕ → ℕ → ℕ → Header
-headerOf k e u = record { kind = k; epoch = e; uid = u }
+abbrev pub headerOf : ℕ → ℕ → ℕ → ℕ → Header
+headerOf k e u b = record { kind = k; epoch = e; uid = u; board = b }
 
--- "Kinds: 0 free, 1 ALLOC, 2 UPDATE, 3 DELETE (an anti-payload)." "A free mark is three zeros."
+-- "the board, 1 for jobs"
+abbrev pub jobsBoard : ℕ
+jobsBoard = 1
+
+-- "Kinds: 0 free, 1 ALLOC, 2 UPDATE, 3 DELETE (an anti-payload)." "A free mark is now four zeros"
 abbrev pub freeHeader : Header
-freeHeader = headerOf 0 0 0
+freeHeader = headerOf 0 0 0 0
 
-abbrev pub freshHeader : ℕ → ℕ → Header
-freshHeader e u = headerOf 1 e u
+abbrev pub freshHeader : ℕ → ℕ → ℕ → Header
+freshHeader e u b = headerOf 1 e u b
 
-abbrev pub updatedHeader : ℕ → ℕ → Header
-updatedHeader e u = headerOf 2 e u
+-- "A new version and a DELETE carry their payload's board", as they do its uid
+abbrev pub updatedHeader : ℕ → Header → Header
+updatedHeader e h = headerOf 2 e (h .uid) (h .board)
 
-abbrev pub antiHeader : ℕ → ℕ → Header
-antiHeader e u = headerOf 3 e u
+abbrev pub antiHeader : ℕ → Header → Header
+antiHeader e h = headerOf 3 e (h .uid) (h .board)
 
 unfoldable pub filledKind : ℕ → Bool
 filledKind k = leb 1 k && leb k 3
@@ -57,7 +62,7 @@ payloadKind k = leb 1 k && leb k 2
 -- ---- readers
 
 unfoldable pub header : List ℕ → ℕ → Header
-header l s = headerOf (getD l (headerAt s) 0) (getD l (headerAt s + 1) 0) (getD l (headerAt s + 2) 0)
+header l s = headerOf (getD l (headerAt s) 0) (getD l (headerAt s + 1) 0) (getD l (headerAt s + 2) 0) (getD l (headerAt s + 3) 0)
 
 unfoldable pub contents : List ℕ → ℕ → ℕ → ℕ → List ℕ
 contents l n w s = take w (drop (contentsAt n w s) l)
@@ -84,7 +89,7 @@ clockOf l = getD l 2 0
 unfoldable pub sizesOk : ℕ → ℕ → Bool
 sizesOk n w = leb 2 n && (leb n mostSlots && (leb 2 w && leb w 9))
 
--- sizes in range, and "the length is exactly 3 + 3N + WN words"
+-- sizes in range, and the length that they ask
 unfoldable pub shapeOk : List ℕ → Bool
 shapeOk l = sizesOk (slotsOf l) (widthOf l) && eqb (length l) (imageWords (slotsOf l) (widthOf l))
 

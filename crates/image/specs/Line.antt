@@ -11,7 +11,7 @@ pub record Line : Type 0 where
   pub words : List ℕ
 
 abbrev pub headerLine : ℕ → Header → Line
-headerLine s h = record { at = headerAt s; words = h .kind ∷ h .epoch ∷ h .uid ∷ [] }
+headerLine s h = record { at = headerAt s; words = h .kind ∷ h .epoch ∷ h .uid ∷ h .board ∷ [] }
 
 abbrev pub contentsLine : ℕ → ℕ → ℕ → List ℕ → Line
 contentsLine n w s words = record { at = contentsAt n w s; words = words }

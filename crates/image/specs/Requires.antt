@@ -56,6 +56,9 @@ epochAt l s = getD l (headerAt s + 1) 0
 abbrev pub uidAt : List ℕ → ℕ → ℕ
 uidAt l s = getD l (headerAt s + 2) 0
 
+abbrev pub boardAt : List ℕ → ℕ → ℕ
+boardAt l s = getD l (headerAt s + 3) 0
+
 -- ---- the lines of a slot as an image holds them
 abbrev pub heldHeader : List ℕ → ℕ → Line
 heldHeader l s = headerLine s (header l s)

@@ -1,12 +1,45 @@
 // Whose slot it is.
+use crate::header::Header;
 ghost use mathlib.Core.Path.{_≡_};
 ghost use Rattle.image.specs.Name.{jobName, nameAt, sameName};
 ghost use Rattle.image.specs.Requires.{Slot};
 
-// Does the slot have the name of the job `key`?
-pub fn named_at(img: &[u32], n: usize, w: usize, s: usize, key: u32) -> bool
+// The name of a job: a board, and a key on it.
+pub struct Name {
+    pub board: u32,
+    pub key: u32,
+}
+
+impl Name {
+    pub fn job(key: u32) -> Self
+        ensures { λ r. ⌜ r ≡ jobName key ⌝ }
+    {
+        Name {
+            board: Header::JOBS,
+            key,
+        }
+    }
+}
+
+// The name of what the slot holds.
+pub fn name_at(img: &[u32], n: usize, w: usize, s: usize) -> Name
     requires { ⌜ Slot (now img) n w s ⌝ }
-    ensures { λ r. ⌜ r ≡ sameName (nameAt (now (img .entry)) n w s) (jobName key) ⌝ }
+    ensures { λ r. ⌜ r ≡ nameAt (now (img .entry)) n w s ⌝ }
 {
-    crate::contents::key_at(img, n, w, s) == key
+    Name {
+        board: crate::header::board_at(img, n, s),
+        key: crate::contents::key_at(img, n, w, s),
+    }
+}
+
+// Does the slot have this name?
+pub fn named_at(img: &[u32], n: usize, w: usize, s: usize, name: Name) -> bool
+    requires { ⌜ Slot (now img) n w s ⌝ }
+    ensures { λ r. ⌜ r ≡ sameName (nameAt (now (img .entry)) n w s) name ⌝ }
+{
+    if crate::contents::key_at(img, n, w, s) == name.key {
+        crate::header::board_at(img, n, s) == name.board
+    } else {
+        false
+    }
 }

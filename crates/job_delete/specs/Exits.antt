@@ -39,7 +39,7 @@ module _ (z : Sizes) (tb : Table) (e s : ℕ) where
   unfolding freedAt
   free-done p q r = rw (q, p, r)
 
-  pub turn-done : {g h : Header} {wk tr : List ℕ} → g ≡ header (tb .working) s → h ≡ antiHeader e (g .uid) → wk ≡ storeLine (tb .working) (headerLine s h)
+  pub turn-done : {g h : Header} {wk tr : List ℕ} → g ≡ header (tb .working) s → h ≡ antiHeader e g → wk ≡ storeLine (tb .working) (headerLine s h)
       → tr ≡ setWaiting z (tb .transient) e s → changed Accepted wk tr ≡ turned z tb e s
   unfolding turned
   turn-done a p q r = rw (q, p, a, r)
@@ -51,7 +51,7 @@ module _ (z : Sizes) (tb : Table) (e s : ℕ) where
       unfolding covered
       cover-full a = rw (← fr, a)
 
-      pub cover-done : {i : ℕ} {g h : Header} {wk tr : List ℕ} → f ≡ At i → g ≡ header (tb .working) s → h ≡ antiHeader e (g .uid)
+      pub cover-done : {i : ℕ} {g h : Header} {wk tr : List ℕ} → f ≡ At i → g ≡ header (tb .working) s → h ≡ antiHeader e g
           → wk ≡ filledSlot z (tb .working) i h (key ∷ replicate (z .w - 1) 0) → tr ≡ setRetired z (taken z (tb .transient) e i) s e → changed Accepted wk tr ≡ covered z tb e s key
       unfolding covered
       cover-done a at hd p q = rw (← fr, a, p, q, hd, at)

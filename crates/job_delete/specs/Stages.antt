@@ -29,12 +29,12 @@ freedAt z tb e s = changed Accepted (storeLine (tb .working) (headerLine s freeH
 -- an UPDATE labelled e
 unfoldable pub turned : Sizes → Table → ℕ → ℕ → Changed
 turned z tb e s =
-    changed Accepted (storeLine (tb .working) (headerLine s (antiHeader e (header (tb .working) s .uid)))) (setWaiting z (tb .transient) e s)
+    changed Accepted (storeLine (tb .working) (headerLine s (antiHeader e (header (tb .working) s)))) (setWaiting z (tb .transient) e s)
 
 -- an older payload
 unfoldable pub covered : Sizes → Table → ℕ → ℕ → ℕ → Changed
 covered z tb e s key =
-    superseded (room z tb 1) z tb e s (antiHeader e (header (tb .working) s .uid)) (key ∷ replicate (z .w - 1) 0)
+    superseded (room z tb 1) z tb e s (antiHeader e (header (tb .working) s)) (key ∷ replicate (z .w - 1) 0)
 
 pub delete-at-is : (z : Sizes) (tb : Table) (e s key : ℕ)
     → deleteAt z tb e s key ≡ cond (eqb (header (tb .working) s .epoch) e) (cond (eqb (header (tb .working) s .kind) 1) (freedAt z tb e s) (turned z tb e s)) (covered z tb e s key)

@@ -29,8 +29,8 @@ fn turn(working: &mut [u32], transient: &mut [u32], z: Sizes, e: u32, s: usize) 
     requires { ⌜ Reached (now working) (now transient) z s ⌝ }
     ensures { λ r. ⌜ changed r (now (working .exit)) (now (transient .exit)) ≡ turned z (table (now (working .entry)) (now (transient .entry))) e s ⌝ }
 {
-    let uid = image::header::header_at(working, z.n, s).uid;
-    image::header::set_header(working, z.n, s, Header::anti(e, uid));
+    let old = image::header::header_at(working, z.n, s);
+    image::header::set_header(working, z.n, s, Header::anti(e, old));
     transient::notes::set_waiting(transient, z, e, s);
     Check::Accepted
 }
@@ -42,7 +42,7 @@ fn cover(working: &mut [u32], transient: &mut [u32], z: Sizes, e: u32, s: usize,
 {
     match table::find::room_for_one(working, transient, z) {
         Found::At(f) => {
-            let h = Header::anti(e, image::header::header_at(working, z.n, s).uid);
+            let h = Header::anti(e, image::header::header_at(working, z.n, s));
             table::fill::fill_zeros(working, z, f, h, key);
             jobs::supersede::note_superseded(transient, z, e, s, f);
             Check::Accepted

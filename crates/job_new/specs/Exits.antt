@@ -11,7 +11,7 @@ use Rattle.reply.specs.declared.Check.the-variants.{Accepted, Refused}
 use Rattle.reply.specs.declared.Refusal.{Refusal}
 use Rattle.reply.specs.declared.Refusal.the-variants.{Newer, JobExists, NoUid, Full}
 use Rattle.image.specs.declared.header.Header.{Header}
-use Rattle.image.specs.Layout.{mostNumber, freshHeader}
+use Rattle.image.specs.Layout.{mostNumber, jobsBoard, freshHeader}
 use Rattle.image.specs.Name.{jobName}
 use Rattle.transient.specs.declared.sizes.Sizes.{Sizes}
 use Rattle.transient.specs.Layout.{note, nextUidAt, setNote}
@@ -35,7 +35,7 @@ use Rattle.job_new.specs.Stages.{newAt, newIn, new-absent-is, newOpen, n
 use Rattle.job_new.specs.Requires.{ready-of, ready-entered, ready-placed, placed-value, placed-note, placed-head, placed-after, placed-uid}
 
 module _ (z : Sizes) (tb : Table) (e : ℕ) (j : Job) where
-  pub new-done : (s : ℕ) {u : ℕ} {h : Header} {wk a b : List ℕ} → u ≡ note nextUidAt (tb .transient) → h ≡ freshHeader e u
+  pub new-done : (s : ℕ) {u : ℕ} {h : Header} {wk a b : List ℕ} → u ≡ note nextUidAt (tb .transient) → h ≡ freshHeader e u jobsBoard
       → wk ≡ filledSlot z (tb .working) s h (j .key ∷ j .value) → a ≡ taken z (tb .transient) e s → b ≡ setNote nextUidAt a (u + 1) → changed Accepted wk b ≡ newAt z tb e s j
   unfolding newAt
   new-done s p q r x y = rw (r, q, y, x, p)

@@ -1,4 +1,4 @@
--- 01: "New takes a free slot: ALLOC, label e, the next uid."
+-- 01: "New takes a free slot: ALLOC, label e, the next uid." 02, No. 2: "the board, 1 for jobs"
 use Prim.Native.Nat.{ℕ, _+_}
 use mathlib.Core.Bool.{cond}
 use mathlib.Core.List.{_∷_}
@@ -7,7 +7,7 @@ use Rattle.search.specs.First.{whereFound}
 use Rattle.reply.specs.declared.Check.{Check}
 use Rattle.reply.specs.declared.Check.the-variants.{Accepted}
 use Rattle.reply.specs.declared.Refusal.the-variants.{JobExists, NoUid, Full}
-use Rattle.image.specs.Layout.{mostNumber, freshHeader}
+use Rattle.image.specs.Layout.{mostNumber, jobsBoard, freshHeader}
 use Rattle.transient.specs.declared.sizes.Sizes.{Sizes}
 use Rattle.transient.specs.Layout.{note, nextUidAt, setNote}
 use Rattle.transient.specs.Store.{Store, Table, Outcome}
@@ -23,7 +23,7 @@ unfoldable pub newAbsent : Sizes → Table → ℕ → Job → Changed
 newAbsent z tb e j =
     cond (ltb mostNumber (note nextUidAt (tb .transient))) (refused NoUid tb)
     (whereFound (room z tb 2)
-    (λ s. changed Accepted (filledSlot z (tb .working) s (freshHeader e (note nextUidAt (tb .transient))) (j .key ∷ j .value))
+    (λ s. changed Accepted (filledSlot z (tb .working) s (freshHeader e (note nextUidAt (tb .transient)) jobsBoard) (j .key ∷ j .value))
     (setNote nextUidAt (taken z (tb .transient) e s) (note nextUidAt (tb .transient) + 1)))
     (refused Full tb))
 

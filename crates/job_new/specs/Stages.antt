@@ -8,7 +8,7 @@ use Rattle.search.specs.declared.Found.{Found}
 use Rattle.search.specs.First.{whereFound}
 use Rattle.reply.specs.declared.Check.the-variants.{Accepted}
 use Rattle.reply.specs.declared.Refusal.the-variants.{Newer, JobExists, NoUid, Full}
-use Rattle.image.specs.Layout.{mostNumber, freshHeader}
+use Rattle.image.specs.Layout.{mostNumber, jobsBoard, freshHeader}
 use Rattle.image.specs.Name.{jobName}
 use Rattle.transient.specs.declared.sizes.Sizes.{Sizes}
 use Rattle.transient.specs.Layout.{note, nextUidAt, setNote}
@@ -25,7 +25,7 @@ use Rattle.job_new.specs.New.{newAbsent}
 unfoldable pub newAt : Sizes → Table → ℕ → ℕ → Job → Changed
 newAt z tb e s j =
     changed Accepted
-    (filledSlot z (tb .working) s (freshHeader e (note nextUidAt (tb .transient))) (j .key ∷ j .value))
+    (filledSlot z (tb .working) s (freshHeader e (note nextUidAt (tb .transient)) jobsBoard) (j .key ∷ j .value))
     (setNote nextUidAt (taken z (tb .transient) e s) (note nextUidAt (tb .transient) + 1))
 
 abbrev pub newIn : Found → Sizes → Table → ℕ → Job → Changed

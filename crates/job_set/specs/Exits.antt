@@ -52,7 +52,7 @@ module _ (z : Sizes) (tb : Table) (e s : ℕ) (j : Job) {f : Found} (fr : f ≡ 
   unfolding updated
   update-full a = rw (← fr, a)
 
-  pub update-done : {i : ℕ} {g h : Header} {wk tr : List ℕ} → f ≡ At i → g ≡ header (tb .working) s → h ≡ updatedHeader e (g .uid) → wk ≡ filledSlot z (tb .working) i h (j .key ∷ j .value)
+  pub update-done : {i : ℕ} {g h : Header} {wk tr : List ℕ} → f ≡ At i → g ≡ header (tb .working) s → h ≡ updatedHeader e g → wk ≡ filledSlot z (tb .working) i h (j .key ∷ j .value)
       → tr ≡ setRetired z (taken z (tb .transient) e i) s e → changed Accepted wk tr ≡ updated z tb e s j
   unfolding updated
   update-done a at hd p q = rw (← fr, a, p, q, hd, at)

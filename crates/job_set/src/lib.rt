@@ -46,7 +46,7 @@ fn update(
 {
     match table::find::room_for_two(working, transient, z) {
         Found::At(f) => {
-            let h = Header::updated(e, image::header::header_at(working, z.n, s).uid);
+            let h = Header::updated(e, image::header::header_at(working, z.n, s));
             table::fill::fill(working, z, f, h, key, value);
             jobs::supersede::note_superseded(transient, z, e, s, f);
             Check::Accepted

@@ -107,7 +107,7 @@ fn list_image(out: &mut [u8], img: &[u32]) -> usize
 
 // What is printed of the bytes that were read.
 fn list_bytes(out: &mut [u8], bytes: &[u8], words: &mut [u32]) -> usize
-    requires { ⌜ length (now words) ≡ 12291 ⌝ }
+    requires { ⌜ length (now words) ≡ 13315 ⌝ }
     requires { ⌜ 262208 ≤ length (now out) ⌝ }
     ensures { λ r. ⌜ Spelt (now (out .entry)) (printedListing (now (bytes .entry))) (now (out .exit)) r ⌝ }
 {
@@ -118,7 +118,7 @@ fn list_bytes(out: &mut [u8], bytes: &[u8], words: &mut [u32]) -> usize
 }
 
 fn run(bytes: &mut [u8], words: &mut [u32], out: &mut [u8])
-    requires { ⌜ length (now words) ≡ 12291 ⌝ }
+    requires { ⌜ length (now words) ≡ 13315 ⌝ }
     requires { ⌜ length (now out) ≡ 262208 ⌝ }
 {
     let n = console::read_bytes(bytes);
@@ -128,8 +128,8 @@ fn run(bytes: &mut [u8], words: &mut [u32], out: &mut [u8])
 
 // The text has room for a first line of 64 bytes and 1,024 lines of 256.
 fn main() {
-    let mut bytes = [0u8; 49164];
-    let mut words = [0u32; 12291];
+    let mut bytes = [0u8; 53260];
+    let mut words = [0u32; 13315];
     let mut out = [0u8; 262208];
     run(&mut bytes, &mut words, &mut out);
 }

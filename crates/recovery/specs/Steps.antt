@@ -18,7 +18,8 @@ use Rattle.search.specs.declared.Found.the-variants.{At, Nothing}
 use Rattle.reply.specs.declared.Check.the-variants.{Accepted}
 use Rattle.image.specs.Layout.{filledKind, header, contents, keyAt, valueAt, slotsOf, widthOf, clockOf, freeHeader}
 use Rattle.image.specs.Line.{headerLine, storeLine}
-use Rattle.image.specs.Name.{Name, Named, nameAt, name-same, unnamed-false, name-kept}
+use Rattle.image.specs.declared.name.Name.{Name}
+use Rattle.image.specs.Name.{Named, nameAt, name-same, unnamed-false, name-kept}
 use Rattle.image.specs.Requires.{header-fits, sized-after}
 use Rattle.image.specs.Laws.{length-store, front-past-header, header-same, header-other, contents-past-header, key-past-header, value-past-header}
 use Rattle.survival.specs.Survivors.{survivor}

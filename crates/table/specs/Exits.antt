@@ -21,7 +21,8 @@ use Rattle.search.specs.declared.Found.the-variants.{At, Nothing}
 use Rattle.image.specs.declared.header.Header.{Header}
 use Rattle.image.specs.Layout.{contentsAt, filledKind, payloadKind, header}
 use Rattle.image.specs.Line.{headerLine, stored, storeLine}
-use Rattle.image.specs.Name.{Name, nameAt, sameName}
+use Rattle.image.specs.declared.name.Name.{Name}
+use Rattle.image.specs.Name.{nameAt, sameName}
 use Rattle.image.specs.Requires.{Slot, slot-of, slot-header, slot-after}
 use Rattle.image.specs.Laws.{area-top}
 use Rattle.image.specs.Storing.{storing-end}

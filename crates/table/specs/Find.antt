@@ -10,7 +10,8 @@ use Rattle.search.specs.Ring.{firstRound}
 use Rattle.search.specs.declared.Found.{Found}
 use Rattle.search.specs.declared.Found.the-variants.{Nothing}
 use Rattle.image.specs.Layout.{filledKind, payloadKind, header}
-use Rattle.image.specs.Name.{Name, nameAt, sameName}
+use Rattle.image.specs.declared.name.Name.{Name}
+use Rattle.image.specs.Name.{nameAt, sameName}
 use Rattle.transient.specs.declared.sizes.Sizes.{Sizes}
 use Rattle.transient.specs.Layout.{note, lastAt, retiredIn}
 use Rattle.transient.specs.Store.{Table}

@@ -17,7 +17,7 @@ use Rattle.search.specs.declared.Found.the-variants.{At, Nothing}
 use Rattle.image.specs.declared.header.Header.{Header}
 use Rattle.image.specs.Layout.{contentsAt, header, contents, keyAt}
 use Rattle.image.specs.Line.{headerLine, contentsLine, stored, storeLine}
-use Rattle.image.specs.Name.{Name}
+use Rattle.image.specs.declared.name.Name.{Name}
 use Rattle.image.specs.Requires.{Slot, slot-header, slot-after}
 use Rattle.image.specs.Laws.{length-store, header-same, header-other, contents-past-header, front-past-header, contents-same, contents-other, header-past-contents, front-past-contents}
 use Rattle.transient.specs.declared.sizes.Sizes.{Sizes}

@@ -13,7 +13,7 @@ use Rattle.search.specs.Ring.{ringSlot, ring-below}
 use Rattle.search.specs.declared.Found.{Found}
 use Rattle.image.specs.Layout.{mostSlots, headerWords, contentsAt}
 use Rattle.image.specs.Line.{storeLine}
-use Rattle.image.specs.Name.{Name}
+use Rattle.image.specs.declared.name.Name.{Name}
 use Rattle.image.specs.Requires.{Slot, HeaderFits, slot, slot-header, slot-after}
 use Rattle.transient.specs.declared.sizes.Sizes.{Sizes}
 use Rattle.transient.specs.Requires.{Shaped}

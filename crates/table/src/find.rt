@@ -1,4 +1,5 @@
 // Searches over the table.
+use image::name::Name;
 use search::Found;
 use transient::sizes::Sizes;
 ghost use mathlib.Core.Path.{_≡_};
@@ -23,7 +24,7 @@ fn newer_at(working: &[u32], z: Sizes, key: u32, e: u32, s: usize) -> bool
     requires { ⌜ Slot (now working) (z .n) (z .w) s ⌝ }
     ensures { λ r. ⌜ r ≡ newerAt z (now (working .entry)) (jobName key) e s ⌝ }
 {
-    if image::name::named_at(working, z.n, z.w, s, key) {
+    if image::name::named_at(working, z.n, z.w, s, Name::job(key)) {
         let h = image::header::header_at(working, z.n, s);
         if image::header::filled(h.kind) {
             e < h.epoch
@@ -39,7 +40,7 @@ fn live_at(working: &[u32], transient: &[u32], z: Sizes, key: u32, s: usize) -> 
     requires { ⌜ ShapedSlot (now working) (now transient) z s ⌝ }
     ensures { λ r. ⌜ r ≡ liveAt z (table (now (working .entry)) (now (transient .entry))) (jobName key) s ⌝ }
 {
-    if image::name::named_at(working, z.n, z.w, s, key) {
+    if image::name::named_at(working, z.n, z.w, s, Name::job(key)) {
         let h = image::header::header_at(working, z.n, s);
         if image::header::payload(h.kind) {
             transient::notes::retired_in(transient, z, s) == 0

@@ -10,4 +10,5 @@ blank-header-spec =
     (tie.spec
     (λ c. search (needs, laws))
     (λ c. search (needs, laws))
+    (λ c. search (needs, laws))
     (λ c. search (needs, laws)))

@@ -2,17 +2,16 @@
 use borrow.Author.Needs.{needs}
 use Rattle.acceptance.specs.Exits.{name-laws}
 use Rattle.chains.specs.Chased.{Chased}
-use Rattle.image.specs.Name.{jobName}
 use Rattle.image.specs.Layout.{keyAt}
 use Rattle.acceptance.specs.Accept.{survivesAs}
 use Rattle.acceptance.proofs.names.survives_below.Statement.{statement}
 use Rattle.acceptance.proofs.names.survives_below.Tie as tie
 
 abbrev Inv-loop : tie.InvT-loop
-Inv-loop img flags below n w key s k₀ k = Chased (survivesAs img n w (jobName key)) (keyAt img n w) n key s k
+Inv-loop img flags below n w name s k₀ k = Chased (survivesAs img n w name) (keyAt img n w) n (name .key) s k
 
 abbrev μ-loop : tie.MeasureT-loop
-μ-loop img flags below n w key s k₀ k = k
+μ-loop img flags below n w name s k₀ k = k
 
 pub survives-below-spec : {M : Type 1} → statement M
 survives-below-spec =

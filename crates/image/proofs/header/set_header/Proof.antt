@@ -1,4 +1,4 @@
--- `set_header`: three stores, of which each keeps the length.
+-- `set_header`: four stores, of which each keeps the length.
 use borrow.Author.Needs.{needs}
 use lib.ListN.{length-set}
 use native.Mathlib.Omega.{arith}
@@ -14,6 +14,9 @@ set-header-spec =
     (λ c. search (needs, laws))
     (λ c. search (needs, laws))
     (λ c. search (needs, laws))
+    (λ c. search (needs, laws))
+    (λ c. search (needs, laws))
+    (λ c. simp length-set (omega arith))
     (λ c. search (needs, laws))
     (λ c. search (needs, laws))
     (λ c. simp length-set (omega arith))

@@ -4,12 +4,11 @@ use Rattle.image.specs.Exits.{laws}
 use Rattle.image.proofs.name.named_at.Statement.{statement}
 use Rattle.image.proofs.name.named_at.Tie as tie
 
-key-at-requires : tie.Need-key-at-requires
-key-at-requires c κs = search needs
-
 pub named-at-spec : {M : Type 1} → statement M
 named-at-spec =
     tie.close
     (tie.spec
-    key-at-requires
+    (λ c κs. search (needs, laws))
+    (λ c κs. search (needs, laws))
+    (λ c. search (needs, laws))
     (λ c. search (needs, laws)))
