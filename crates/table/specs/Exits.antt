@@ -46,10 +46,10 @@ and-yes : (a : Bool) → a ≡ a && true
 and-yes true = refl
 and-yes false = refl
 
-module _ (z : Sizes) (wk : List ℕ) (name : Name) (e s : ℕ) {k : Bool} (q : k ≡ sameName (nameAt wk (z .n) (z .w) s) name) where
+module _ (z : Sizes) (wk : List ℕ) (name : Name) (e s : ℕ) {nm : Name} {k : Bool} (is : nm ≡ name) (q : k ≡ sameName (nameAt wk (z .n) (z .w) s) nm) where
   pub newer-other : k ≡ false → false ≡ newerAt z wk name e s
   unfolding newerAt
-  newer-other d = rw (← q, d) (and-no (filledKind (header wk s .kind)))
+  newer-other d = rw (← is, ← q, d) (and-no (filledKind (header wk s .kind)))
 
   module _ {h : Header} {f : Bool} (d : k ≡ true) (at : h ≡ header wk s) (fl : f ≡ filledKind (h .kind)) where
     pub newer-free : f ≡ false → false ≡ newerAt z wk name e s
@@ -58,13 +58,13 @@ module _ (z : Sizes) (wk : List ℕ) (name : Name) (e s : ℕ) {k : Bool} (q : k
 
     pub newer-epoch : f ≡ true → ltb e (h .epoch) ≡ newerAt z wk name e s
     unfolding newerAt
-    newer-epoch t = rw (← at, ← fl, t, ← q, d)
+    newer-epoch t = rw (← at, ← fl, t, ← is, ← q, d)
 
-module _ (z : Sizes) (tb : Table) (name : Name) (s : ℕ) {k : Bool} (q : k ≡ sameName (nameAt (tb .working) (z .n) (z .w) s) name) where
+module _ (z : Sizes) (tb : Table) (name : Name) (s : ℕ) {nm : Name} {k : Bool} (is : nm ≡ name) (q : k ≡ sameName (nameAt (tb .working) (z .n) (z .w) s) nm) where
   pub live-other : k ≡ false → false ≡ liveAt z tb name s
   unfolding liveAt
   live-other d =
-      rw (← q, d, ← and-no (eqb (retiredIn z (tb .transient) s) 0))
+      rw (← is, ← q, d, ← and-no (eqb (retiredIn z (tb .transient) s) 0))
       (and-no (payloadKind (header (tb .working) s .kind)))
 
   module _ {h : Header} {p : Bool} (d : k ≡ true) (at : h ≡ header (tb .working) s) (pl : p ≡ payloadKind (h .kind)) where
@@ -74,7 +74,7 @@ module _ (z : Sizes) (tb : Table) (name : Name) (s : ℕ) {k : Bool} (q : k ≡ 
 
     pub live-retired : {r : ℕ} → p ≡ true → r ≡ retiredIn z (tb .transient) s → eqb r 0 ≡ liveAt z tb name s
     unfolding liveAt
-    live-retired {r} e re = rw (← at, ← pl, e, ← re, ← q, d) (and-yes (eqb r 0))
+    live-retired {r} e re = rw (← at, ← pl, e, ← re, ← is, ← q, d) (and-yes (eqb r 0))
 
 pub live-slot : (z : Sizes) (tb : Table) (name : Name) {r : Found} → r ≡ firstOf (liveAt z tb name) (z .n) → r ≡ liveSlot z tb name
 unfolding liveSlot

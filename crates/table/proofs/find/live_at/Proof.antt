@@ -12,6 +12,7 @@ live-at-spec =
     (λ c κs. search (needs, finds))
     (λ c κs. search (needs, finds))
     (λ c κs. search (needs, finds))
+    (λ c κs. search (needs, finds))
     (λ c. search (needs, finds))
     (λ c. search (needs, finds))
     (λ c. search (needs, finds)))

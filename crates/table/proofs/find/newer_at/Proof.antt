@@ -11,6 +11,7 @@ newer-at-spec =
     (λ c κs. search (needs, finds))
     (λ c κs. search (needs, finds))
     (λ c κs. search (needs, finds))
+    (λ c κs. search (needs, finds))
     (λ c. search (needs, finds))
     (λ c. search (needs, finds))
     (λ c. search (needs, finds)))
