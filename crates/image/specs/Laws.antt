@@ -15,7 +15,7 @@ use Rattle.search.specs.Bools.{and-left, and-right}
 use Rattle.image.specs.declared.header.Header.{Header}
 use Rattle.image.specs.Layout.{mostSlots, headerWords, headerAt, contentsAt, imageWords, header, contents, keyAt, valueAt, slotsOf, widthOf, clockOf, sizesOk, shapeOk}
 use Rattle.image.specs.Line.{Line, headerLine, contentsLine, clockLine, stored, storeLine}
-use Rattle.image.specs.Name.{nameOf, nameAt, name-is}
+use Rattle.image.specs.Name.{nameOf, nameAt, name-is, name-kept}
 use Rattle.image.specs.Requires.{kindAt, epochAt, uidAt, boardAt, InRange, Sized, Slot, HeaderFits, room-of}
 
 -- ---- an image of the right shape has its sizes
@@ -168,9 +168,12 @@ module _ (l : List ℕ) (n w s t : ℕ) (h : Header) (within : s < n) where
   unfolding contents
   contents-past-header = part-apart l (headerLine s h) (contentsAt n w t) w (inr (omega arith))
 
-  pub key-past-header : keyAt (storeLine l (headerLine s h)) n w t ≡ keyAt l n w t
+  key-past-header : keyAt (storeLine l (headerLine s h)) n w t ≡ keyAt l n w t
   unfolding keyAt
   key-past-header = word-apart l (headerLine s h) (contentsAt n w t) (inr (omega arith))
+
+  pub name-past-header : t ≢ s → nameAt (storeLine l (headerLine s h)) n w t ≡ nameAt l n w t
+  name-past-header d = name-kept l (storeLine l (headerLine s h)) n w t (ap (λ (x : Header). x .board) (header-other l s t h d)) key-past-header
 
   pub value-past-header : valueAt (storeLine l (headerLine s h)) n w t ≡ valueAt l n w t
   unfolding valueAt

@@ -65,13 +65,14 @@ same-refl l =
       clock = refl;
       survivors = λ s h. refl;
       lines = λ s. refl;
-      keys = λ s. refl;
+      names = λ s h v. refl;
       values = λ s. refl;
     }
 
 same-trans : {l m k : List ℕ} → SameSurvivors l m → SameSurvivors m k → SameSurvivors l k
 same-trans {l} {m} {k} a b =
     let survivors : (s : ℕ) → s < slotsOf l → survivor k (slotsOf l) s ≡ survivor m (slotsOf l) s = rw (a .slots) at (b .survivors) in
+    let names = rw (a .slots, a .width) at (b .names) in
     record {
       long = b .long ∙ a .long;
       slots = b .slots ∙ a .slots;
@@ -79,7 +80,7 @@ same-trans {l} {m} {k} a b =
       clock = b .clock ∙ a .clock;
       survivors = λ s h. survivors s h ∙ a .survivors s h;
       lines = λ s. (rw (a .slots, a .width) at (b .lines s)) ∙ a .lines s;
-      keys = λ s. (rw (a .slots, a .width) at (b .keys s)) ∙ a .keys s;
+      names = λ s h v. names s h (a .survivors s h ∙ v) ∙ a .names s h v;
       values = λ s. (rw (a .slots, a .width) at (b .values s)) ∙ a .values s;
     }
 

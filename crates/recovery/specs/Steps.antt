@@ -9,19 +9,19 @@ use lib.ListN.{length}
 use borrow.Author.Tests.{not-true, not-false}
 use native.Mathlib.Omega.{arith}
 use native.Mathlib.Decide.{decLt}
-use Rattle.search.specs.Bools.{never, upheld, refuted, same-test, and-left, and-right, and-both}
+use Rattle.search.specs.Bools.{never, upheld, refuted, same-test, and-left, and-right, and-both, and-same}
 use Rattle.search.specs.First.{firstOf, First, found-first, found-nothing}
 use Rattle.search.specs.Some.{some-at, some-same}
 use Rattle.search.specs.Count.{count, count-down}
 use Rattle.search.specs.declared.Found.{Found}
 use Rattle.search.specs.declared.Found.the-variants.{At, Nothing}
 use Rattle.reply.specs.declared.Check.the-variants.{Accepted}
-use Rattle.image.specs.Layout.{filledKind, header, contents, keyAt, valueAt, slotsOf, widthOf, clockOf, freeHeader}
+use Rattle.image.specs.Layout.{filledKind, header, contents, valueAt, slotsOf, widthOf, clockOf, freeHeader}
 use Rattle.image.specs.Line.{headerLine, storeLine}
 use Rattle.image.specs.declared.name.Name.{Name}
-use Rattle.image.specs.Name.{Named, nameAt, name-same, unnamed-false, name-kept}
+use Rattle.image.specs.Name.{Named, nameAt, name-same, unnamed-false}
 use Rattle.image.specs.Requires.{header-fits, sized-after}
-use Rattle.image.specs.Laws.{length-store, front-past-header, header-same, header-other, contents-past-header, key-past-header, value-past-header}
+use Rattle.image.specs.Laws.{length-store, front-past-header, header-same, header-other, contents-past-header, name-past-header, value-past-header}
 use Rattle.survival.specs.Survivors.{survivor}
 use Rattle.survival.specs.Requires.{wins, survives, keptAnti}
 use Rattle.acceptance.specs.Accept.{survivesAs, nameBelow, imageCheck}
@@ -33,7 +33,7 @@ use Rattle.recovery.specs.Freed.{Freed, Covered, anti-says, survives-fil
 unfoldable pub filledAt : List ℕ → ℕ → Bool
 filledAt l s = filledKind (header l s .kind)
 
--- l′ has the sizes, the clock, the survivors and the contents of l
+-- l′ has the sizes, the clock, the survivors with their names and the contents of l
 pub record SameSurvivors (l l′ : List ℕ) : Type 0 where
   pub long : length l′ ≡ length l
   pub slots : slotsOf l′ ≡ slotsOf l
@@ -41,7 +41,7 @@ pub record SameSurvivors (l l′ : List ℕ) : Type 0 where
   pub clock : clockOf l′ ≡ clockOf l
   pub survivors : (s : ℕ) → s < slotsOf l → survivor l′ (slotsOf l) s ≡ survivor l (slotsOf l) s
   pub lines : (s : ℕ) → contents l′ (slotsOf l) (widthOf l) s ≡ contents l (slotsOf l) (widthOf l) s
-  pub keys : (s : ℕ) → keyAt l′ (slotsOf l) (widthOf l) s ≡ keyAt l (slotsOf l) (widthOf l) s
+  pub names : (s : ℕ) → s < slotsOf l → survivor l (slotsOf l) s ≡ true → nameAt l′ (slotsOf l) (widthOf l) s ≡ nameAt l (slotsOf l) (widthOf l) s
   pub values : (s : ℕ) → valueAt l′ (slotsOf l) (widthOf l) s ≡ valueAt l (slotsOf l) (widthOf l) s
 
 -- ---- the slot freed next: filled, no survivor, covered
@@ -111,7 +111,9 @@ module _ (l : List ℕ) (s : ℕ) (ok : imageCheck l ≡ Accepted) (next : nextF
         clock = clock;
         survivors = λ t h. rw clock (freed-survives (clockOf l) freed n (p .dies) (p .covered) t h);
         lines = λ t. contents-past-header l n (widthOf l) s t freeHeader (p .below);
-        keys = λ t. key-past-header l n (widthOf l) s t freeHeader (p .below);
+        names = λ t h v.
+            let d : t ≢ s = λ e. never _ (rw e at v) (p .dies) in
+            name-past-header l n (widthOf l) s t freeHeader (p .below) d;
         values = λ t. value-past-header l n (widthOf l) s t freeHeader (p .below);
       }
 
@@ -125,17 +127,13 @@ module _ (l : List ℕ) (s : ℕ) (ok : imageCheck l ≡ Accepted) (next : nextF
 
 -- ---- acceptance goes by the survivors, but for properness and versions
 module _ {l l′ : List ℕ} (same : SameSurvivors l l′) where
-  -- a slot keeps its name
-  name-same-at : (s : ℕ) → nameAt l′ (slotsOf l) (widthOf l) s ≡ nameAt l (slotsOf l) (widthOf l) s
-  name-same-at s = name-kept l l′ (slotsOf l) (widthOf l) s (same .keys s)
-
   named-same : (s : ℕ) → s < slotsOf l → nameless l′ (slotsOf l) (widthOf l) s ≡ nameless l (slotsOf l) (widthOf l) s
   unfolding nameless
-  named-same s h = rw (same .survivors s h, name-same-at s)
+  named-same s h = rw (same .survivors s h) (and-same _ (λ v. rw (same .names s h v)))
 
   pub survives-same : (name : Name) (t : ℕ) → t < slotsOf l → survivesAs l′ (slotsOf l) (widthOf l) name t ≡ survivesAs l (slotsOf l) (widthOf l) name t
   unfolding survivesAs
-  survives-same name t h = rw (same .survivors t h, name-same-at t)
+  survives-same name t h = rw (same .survivors t h) (and-same _ (λ v. rw (same .names t h v)))
 
   names-same : (s : ℕ) → s < slotsOf l → nameBelow l′ (slotsOf l) (widthOf l) s ≡ nameBelow l (slotsOf l) (widthOf l) s
   unfolding nameBelow
@@ -144,7 +142,7 @@ module _ {l l′ : List ℕ} (same : SameSurvivors l l′) where
       let w = widthOf l in
       let k = nameAt l n w s in
       let below = some-same (survivesAs l′ n w k) (survivesAs l n w k) s (λ t u. survives-same k t (omega arith)) in
-      rw (same .survivors s h, name-same-at s, below)
+      rw (same .survivors s h) (and-same _ (λ v. rw (same .names s h v, below)))
 
 pub step-accepted : (l : List ℕ) (s : ℕ) → imageCheck l ≡ Accepted → nextFreed l (slotsOf l) ≡ At s → imageCheck (storeLine l (headerLine s freeHeader)) ≡ Accepted
 step-accepted l s ok next =

@@ -43,6 +43,11 @@ and-right false b h = absurd (false≢true h)
 pub and-both : {a b : Bool} → a ≡ true → b ≡ true → a && b ≡ true
 and-both s t = rw (s, t)
 
+-- where the first holds, the second of one is the second of the other
+pub and-same : (a : Bool) {b d : Bool} → (a ≡ true → b ≡ d) → a && b ≡ a && d
+and-same true f = f refl
+and-same false f = refl
+
 pub or-left : (a b : Bool) → a || b ≡ false → a ≡ false
 or-left true b h = absurd (true≢false h)
 or-left false b h = refl
