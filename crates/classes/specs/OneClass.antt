@@ -81,11 +81,11 @@ blank-filled : (c : ℕ) (h : Header) → FilledOk c h → blankHeader h ≡ fal
 unfolding blankHeader
 blank-filled c h f =
     refuted (blankHeader h)
-    (λ t. omega (arith, eqb-true (h .uid) 0 (and-right (eqb (h .epoch) 0) _ (and-right (eqb (h .kind) 0) _ t)), f .uid-lo))
+    (λ t. omega (arith, eqb-true (h .epoch) 0 (and-left (eqb (h .epoch) 0) _ (and-right (eqb (h .kind) 0) _ t)), f .epoch-lo))
 
 blank-free : (h : Header) → FreeOk h → blankHeader h ≡ true
 unfolding blankHeader
-blank-free h f = rw (f .kind-is, f .epoch-is, f .uid-is)
+blank-free h f = rw (f .kind-is, f .epoch-is, f .uid-is, f .board-is)
 
 unfilled-free : (h : Header) → FreeOk h → filledKind (h .kind) ≡ false
 unfolding filledKind

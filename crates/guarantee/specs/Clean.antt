@@ -15,7 +15,7 @@ use Rattle.search.specs.Some.{some-at}
 use Rattle.reply.specs.declared.Check.the-variants.{Accepted}
 use Rattle.image.specs.Layout.{filledKind, payloadKind, header, contents, valueAt, slotsOf, widthOf, clockOf, freeHeader}
 use Rattle.image.specs.declared.name.Name.{Name}
-use Rattle.image.specs.Name.{nameAt}
+use Rattle.image.specs.Name.{key-same, nameAt}
 use Rattle.image.specs.Laws.{name-contents, value-contents}
 use Rattle.transient.specs.declared.sizes.Sizes.{Sizes}
 use Rattle.transient.specs.Layout.{threadsOf, threadsOk, note, nextUidAt, phaseAt, placeAt, openEpoch, retiredIn, blank}
@@ -168,22 +168,22 @@ module _ {l tr : List ℕ} (z : Clean l tr) where
   settled-in s h =
       let o = old-at s h in
       record {
-        same-head = record { kind-is = refl; epoch-is = refl; uid-is = refl };
-        same-line = record { name-is = refl; value-is = refl };
+        same-head = record { kind-is = refl; epoch-is = refl; uid-is = refl; board-is = refl };
+        same-line = record { key-is = refl; value-is = refl };
         proper = proper-at s h;
         payload = o .payload;
         old = o .old;
         uid-below = o .uid-below;
         named = λ f q.
-            survivor-named l (z .accepted) s h (filled-lives s (rw (is-at s h) f) .survives) (name-contents l n w s some-width ∙ q);
+            survivor-named l (z .accepted) s h (filled-lives s (rw (is-at s h) f) .survives) (key-same (name-contents l n w s some-width) ∙ q);
         not-retired = z .not-retired sz s;
       }
 
   settled-out : Settled c (note nextUidAt tr) noSlot
   settled-out =
       record {
-        same-head = record { kind-is = refl; epoch-is = refl; uid-is = refl };
-        same-line = record { name-is = refl; value-is = refl };
+        same-head = record { kind-is = refl; epoch-is = refl; uid-is = refl; board-is = refl };
+        same-line = record { key-is = refl; value-is = refl };
         proper = proper-says c freeHeader [] (free-proper c);
         payload = omega arith;
         old = omega (arith, ok .clock-lo);

@@ -12,7 +12,7 @@ use Rattle.search.specs.Some.{some-one}
 use Rattle.reply.specs.declared.Check.the-variants.{Accepted}
 use Rattle.image.specs.Layout.{header, contents, valueAt, clockOf}
 use Rattle.image.specs.declared.name.Name.{Name}
-use Rattle.image.specs.Name.{nameAt, same-name, unnamed-true}
+use Rattle.image.specs.Name.{key-same, nameAt, same-name, unnamed-true}
 use Rattle.image.specs.Laws.{name-contents, value-contents}
 use Rattle.transient.specs.declared.sizes.Sizes.{Sizes}
 use Rattle.transient.specs.Store.{Store}
@@ -86,7 +86,7 @@ module _ {sz : Sizes} {start : Jobs} {st : Store} {p : Plain} (g : Good sz start
   unfolding nameless
   cut-nameless s h = refuted (nameless image (sz .n) (sz .w) s) (λ y.
       let x = survivor image (sz .n) s in
-      cut-named (g .inv) cut-clock s (survives-here s h (and-left x _ y)) (name-at s h ∙ unnamed-true (nameAt image (sz .n) (sz .w) s) (and-right x _ y)))
+      cut-named (g .inv) cut-clock s (survives-here s h (and-left x _ y)) (key-same (name-at s h) ∙ unnamed-true (nameAt image (sz .n) (sz .w) s) (and-right x _ y)))
 
   -- no version is kept twice
   cut-version : (s : ℕ) → s < sz .n → versionBelow (clockOf image) (header image) s ≡ false

@@ -81,10 +81,10 @@ module _ {sz : Sizes} {start : Jobs} {st : Store} {p : Plain} (g : Good sz start
 
     -- both images have the line
     line-same : SameLine (lined s .persistent) (lined s .working)
-    line-same = rw (line-put .here) (record { name-is = refl; value-is = refl })
+    line-same = rw (line-put .here) (record { key-is = refl; value-is = refl })
 
     head-same : SameHead (headered s .persistent) (headered s .working)
-    head-same = rw (head-put .here) (record { kind-is = refl; epoch-is = refl; uid-is = refl })
+    head-same = rw (head-put .here) (record { kind-is = refl; epoch-is = refl; uid-is = refl; board-is = refl })
 
 -- ---- by the memory
 module _ {sz : Sizes} {start : Jobs} {st : Store} {p : Plain} (slot code : ℕ) (g : Good sz start st p) where

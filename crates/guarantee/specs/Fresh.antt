@@ -72,6 +72,7 @@ module _ (n w : ℕ) (sizes : InRange n w) where
         kind = fresh-word (headerAt s) (omega arith) i;
         epoch = fresh-word (headerAt s + 1) (omega arith) i;
         uid = fresh-word (headerAt s + 2) (omega arith) i;
+        board = fresh-word (headerAt s + 3) (omega arith) i;
       }
 
   -- nothing is kept, so nothing survives

@@ -12,7 +12,7 @@ use native.Mathlib.Omega.{arith}
 use Rattle.search.specs.declared.Found.{Found}
 use Rattle.search.specs.declared.Found.the-variants.{At, Nothing}
 use Rattle.reply.specs.declared.Refusal.the-variants.{Newer, JobExists, NoUid, Full}
-use Rattle.image.specs.Layout.{mostNumber, freshHeader}
+use Rattle.image.specs.Layout.{mostNumber, jobsBoard, freshHeader}
 use Rattle.image.specs.Name.{jobName}
 use Rattle.transient.specs.declared.sizes.Sizes.{Sizes}
 use Rattle.transient.specs.Layout.{note, lastAt, nextUidAt, openEpoch}
@@ -46,7 +46,7 @@ module _ {sz : Sizes} {start : Jobs} {wk l tr : List ℕ} {p : Plain} (thread : 
   made-fine : (s : ℕ) → s < sz .n → freeAt wk s ≡ true → Missing sz (table wk tr) (jobName (j .key)) e → note nextUidAt tr ≤ mostNumber → Good′ (newAt sz (table wk tr) e s j)
   unfolding newAt
   made-fine s h f m u =
-      let a = filled-wrote (g .working .sized) h (freshHeader e (note nextUidAt tr)) (j .key ∷ j .value) (omega (arith, words)) in
+      let a = filled-wrote (g .working .sized) h (freshHeader e (note nextUidAt tr) jobsBoard) (j .key ∷ j .value) (omega (arith, words)) in
       let i = made-joins (g .notes) e s h (note nextUidAt tr + 1) in
       let up : note nextUidAt tr + 1 ≡ suc (note nextUidAt tr) = omega arith in
       record {
@@ -56,6 +56,7 @@ module _ {sz : Sizes} {start : Jobs} {wk l tr : List ℕ} {p : Plain} (thread : 
               joins = change-joins g a i h;
               free = free-says g h f;
               named = named;
+              board-is = refl;
               uid-hi = u;
               no-live = no-live-of g (m .none);
               no-later = no-later-of g (m .newest);

@@ -13,7 +13,7 @@ use Rattle.search.specs.Bools.{cases}
 use Rattle.reply.specs.declared.Refusal.the-variants.{Newer, NoJob}
 use Rattle.image.specs.Layout.{header, contents, keyAt, freeHeader, antiHeader}
 use Rattle.image.specs.Laws.{key-contents}
-use Rattle.image.specs.Name.{jobName}
+use Rattle.image.specs.Name.{nameOf, jobName}
 use Rattle.transient.specs.declared.sizes.Sizes.{Sizes}
 use Rattle.transient.specs.Layout.{note, lastAt, openEpoch, retiredIn}
 use Rattle.transient.specs.Store.{Store, store, table}
@@ -78,7 +78,7 @@ module _ {sz : Sizes} {start : Jobs} {wk l tr : List ℕ} {p : Plain} (thread ke
     rewritten-fine v long =
         let a = value-wrote {sz = sz} (g .working .sized) (lives .below) v long in
         let j = waiting-joins (g .notes) e s (lives .below) in
-        let x : entry (header wk s .kind) (header wk s .epoch) (header wk s .uid) (keyAt wk (sz .n) (sz .w) s) v ≡ steps.revalued v (old .working) =
+        let x : entry (header wk s .kind) (header wk s .epoch) (header wk s .uid) (nameOf (header wk s .board) (keyAt wk (sz .n) (sz .w) s)) v ≡ steps.revalued v (old .working) =
         rw (at-slot, key-contents wk (sz .n) (sz .w) s (omega (arith, g .working .sized .sizes .width-lo))) in
         let r : retiredIn sz tr s ≡ old .retired = rw at-slot in
         record {
@@ -89,10 +89,10 @@ module _ {sz : Sizes} {start : Jobs} {wk l tr : List ℕ} {p : Plain} (thread ke
     turned-fine : Fine sz start l p thread (jobName key) none (turned sz (table wk tr) e s)
     unfolding turned
     turned-fine =
-        let h = antiHeader e (header wk s .uid) in
+        let h = antiHeader e (header wk s) in
         let a = header-wrote (g .working .sized) (lives .below) h in
         let j = waiting-joins (g .notes) e s (lives .below) in
-        let x : entry 3 e (header wk s .uid) (getD words 0 0) (drop 1 words) ≡ steps.turned (old .working) = rw (at-slot, same) in
+        let x : entry 3 e (header wk s .uid) (nameOf (header wk s .board) (getD words 0 0)) (drop 1 words) ≡ steps.turned (old .working) = rw (at-slot, same) in
         let r : retiredIn sz tr s ≡ old .retired = rw at-slot in
         record {
           good = good-change g (wrote-image a (g .working)) (j .head) (j .uid) (row-epoch g thread (jobName key) none within)
@@ -104,7 +104,7 @@ module _ {sz : Sizes} {start : Jobs} {wk l tr : List ℕ} {p : Plain} (thread ke
     freed-fine alloc =
         let a = header-wrote (g .working .sized) (lives .below) freeHeader in
         let j = joined-joins (g .notes) e s (lives .below) in
-        let x : entry 0 0 0 (getD words 0 0) (drop 1 words) ≡ steps.freed (old .working) = rw at-slot in
+        let x : entry 0 0 0 (nameOf 0 (getD words 0 0)) (drop 1 words) ≡ steps.freed (old .working) = rw at-slot in
         let one : old .working .kind ≡ 1 = rw at-slot alloc in
         record {
           good = good-change g (wrote-image a (g .working)) (j .head) (j .uid) (row-epoch g thread (jobName key) none within)

@@ -10,7 +10,7 @@ use native.Mathlib.Omega.{arith}
 use native.Mathlib.Decide.{ℕ-discrete}
 use Rattle.search.specs.Bools.{and-left, and-right, and-both}
 use Rattle.image.specs.declared.header.Header.{Header}
-use Rattle.image.specs.Layout.{mostNumber, filledKind, payloadKind}
+use Rattle.image.specs.Layout.{mostNumber, jobsBoard, filledKind, payloadKind}
 use Rattle.survival.specs.Survivors.{kept}
 use Rattle.acceptance.specs.Accept.{blankHeader, filledHeader, proper}
 use Rattle.acceptance.specs.Sound.{proper-cases}
@@ -52,7 +52,7 @@ says-kept c e h line q t k = and-both (says-filled (h .kind) (k .filled) t) (le-
 pub says-proper : (c : ℕ) (h : Header) (line : List ℕ) → Proper c (entryOf h line) → proper c h ≡ true
 unfolding proper blankHeader filledHeader
 says-proper c h line p = elim (ℕ-discrete (h .kind) 0) [
-  | yes z ↦ rw (eq-eqb (h .kind) 0 z, eq-eqb (h .epoch) 0 (p .free-epoch z), eq-eqb (h .uid) 0 (p .free-uid z))
+  | yes z ↦ rw (eq-eqb (h .kind) 0 z, eq-eqb (h .epoch) 0 (p .free-epoch z), eq-eqb (h .uid) 0 (p .free-uid z), eq-eqb (h .board) 0 (p .free-board z))
   | no z ↦
       let k : 1 ≤ h .kind = omega arith in
       rw (
@@ -62,6 +62,7 @@ says-proper c h line p = elim (ℕ-discrete (h .kind) 0) [
         le-leb (h .epoch) c (p .epoch-hi),
         le-leb 1 (h .uid) (p .uid-lo k),
         le-leb (h .uid) mostNumber (p .uid-hi),
+        eq-eqb (h .board) jobsBoard (p .board-is k),
       )
 ]
 
@@ -71,10 +72,12 @@ proper-says c h line p = elim (proper-cases c h p) [
     kind-hi = omega arith;
     free-epoch = λ _. f .epoch-is;
     free-uid = λ _. f .uid-is;
+    free-board = λ _. f .board-is;
     epoch-lo = λ k. absurd (omega arith);
     epoch-hi = omega arith;
     uid-lo = λ k. absurd (omega arith);
     uid-hi = omega arith;
+    board-is = λ k. absurd (omega arith);
   }
   | inr f ↦
       let k = filled-says (h .kind) (f .filled) in
@@ -82,9 +85,11 @@ proper-says c h line p = elim (proper-cases c h p) [
         kind-hi = k .1;
         free-epoch = λ q. absurd (omega arith);
         free-uid = λ q. absurd (omega arith);
+        free-board = λ q. absurd (omega arith);
         epoch-lo = λ _. f .epoch-lo;
         epoch-hi = f .epoch-hi;
         uid-lo = λ _. f .uid-lo;
         uid-hi = f .uid-hi;
+        board-is = λ _. f .board-is;
       }
 ]

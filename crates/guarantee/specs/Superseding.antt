@@ -14,7 +14,7 @@ use Rattle.reply.specs.declared.Refusal.the-variants.{Full}
 use Rattle.image.specs.declared.header.Header.{Header}
 use Rattle.image.specs.Layout.{headerOf, header}
 use Rattle.image.specs.declared.name.Name.{Name}
-use Rattle.image.specs.Name.{jobName}
+use Rattle.image.specs.Name.{names-meet, key-same, jobName}
 use Rattle.transient.specs.declared.sizes.Sizes.{Sizes}
 use Rattle.transient.specs.Layout.{note, lastAt, nextUidAt, openEpoch, isWaiting, setRetired}
 use Rattle.transient.specs.Store.{Store, store, table}
@@ -95,13 +95,13 @@ module _ {sz : Sizes} {start : Jobs} {st : Store} {p : Plain} (g : Good sz start
   pub over-uid : note nextUidAt (setRetired sz tr′ s e) ≡ u
   over-uid = retired-front tr′ sz s e .uid ∙ j .uid
 
--- the step with the uid and the name as the call has them
-over-as : {kind e s r : ℕ} {v : Value} {u : Option Value} {now before : ℕ} {st : State} {f : ℕ → Slot} {uid : ℕ} {k : Name} → Inv st
-    → uid ≡ st .slots r .working .uid → k ≡ st .slots r .working .name → Successor kind v u → Current e r st → Joins (st .clock) e now before (st .slots s)
+-- the step with the uid and the name as the call has them, and the name as the slot has it
+over-as : {kind e s r : ℕ} {v : Value} {u : Option Value} {now before : ℕ} {st : State} {f : ℕ → Slot} {uid : ℕ} {k k′ : Name} → Inv st
+    → uid ≡ st .slots r .working .uid → k ≡ st .slots r .working .name → k′ ≡ st .slots r .working .name → Successor kind v u → Current e r st → Joins (st .clock) e now before (st .slots s)
     → st .slots s .working .kind ≡ 0 → st .slots r .working .epoch < e
-    → Put2 (st .slots) f s (filled (entry kind e uid k v) now before (st .slots s)) r (retiring e (st .slots r))
+    → Put2 (st .slots) f s (filled (entry kind e uid k′ v) now before (st .slots s)) r (retiring e (st .slots r))
     → Inv (after st f (st .uid) e k u)
-over-as i a b o c j free older put = rw b (over-inv i record { outcome = o; of = c; joins = j; free = free; older = older; put = rw (a, b) at put })
+over-as i a b d o c j free older put = rw b (over-inv i record { outcome = o; of = c; joins = j; free = free; older = older; put = rw (a, d) at put })
 
 -- ---- set by a new UPDATE, delete by a new DELETE
 module _ {sz : Sizes} {start : Jobs} {wk l tr : List ℕ} {p : Plain} {kind : ℕ} {v : Value} {u : Option Value} (thread key s : ℕ) (o : Successor kind v u)
@@ -117,24 +117,25 @@ module _ {sz : Sizes} {start : Jobs} {wk l tr : List ℕ} {p : Plain} {kind : �
   at-slot = view-in (store wk l tr) sz (p .clock) s (lives .below)
 
   super-at : (f : ℕ) → f < sz .n → freeAt wk f ≡ true
-      → Good sz start (store (filledSlot sz wk f (headerOf kind e (header wk s .uid)) (key ∷ v)) l (setRetired sz (taken sz tr e f) s e))
+      → Good sz start (store (filledSlot sz wk f (headerOf kind e (header wk s .uid) (header wk s .board)) (key ∷ v)) l (setRetired sz (taken sz tr e f) s e))
       (plain (p .clock) (p .operation) (p .row ++ (record { epoch = p .operation thread; name = jobName key; value = u } ∷ [])) (p .ended) (p .durable))
   super-at f h free =
-      let a = filled-wrote (g .working .sized) h (headerOf kind e (header wk s .uid)) (key ∷ v) (omega (arith, words)) in
+      let a = filled-wrote (g .working .sized) h (headerOf kind e (header wk s .uid) (header wk s .board)) (key ∷ v) (omega (arith, words)) in
       let j = taken-joins (g .notes) e f h in
       let empty = free-says g h free in
       let pay = lives .payload in
       let apart : f ≢ s = λ q. let z = rw q at empty in omega arith in
       let uid-is : header wk s .uid ≡ old .working .uid = rw at-slot in
       let epoch-is : header wk s .epoch ≡ old .working .epoch = rw at-slot in
+      let board-is : header wk s .board ≡ old .working .name .board = rw at-slot in
       good-change g (wrote-image a (g .working)) (over-head g a j h (lives .below) apart) (over-uid g a j h (lives .below) apart) (row-epoch g thread (jobName key) u within)
-      (over-as (g .inv) uid-is (sym (lives .named)) o (record { operation = operation-of g thread within begun; payload = lives .payload; current = lives .current })
+      (over-as (g .inv) uid-is (sym (lives .named)) (names-meet board-is (key-same (sym (lives .named)))) o (record { operation = operation-of g thread within begun; payload = lives .payload; current = lives .current })
       (change-joins g a j h) empty (omega (arith, epoch-is, older)) (over-put g a j h (lives .below) apart))
 
   pub super-fine : (k : ℕ) → note lastAt tr < sz .n
-      → Fine sz start l p thread (jobName key) u (superseded (room sz (table wk tr) k) sz (table wk tr) e s (headerOf kind e (header wk s .uid)) (key ∷ v))
+      → Fine sz start l p thread (jobName key) u (superseded (room sz (table wk tr) k) sz (table wk tr) e s (headerOf kind e (header wk s .uid) (header wk s .board)) (key ∷ v))
   super-fine k h = go (room sz (table wk tr) k) refl
     where
-      go : (f : Found) → room sz (table wk tr) k ≡ f → Fine sz start l p thread (jobName key) u (superseded f sz (table wk tr) e s (headerOf kind e (header wk s .uid)) (key ∷ v))
+      go : (f : Found) → room sz (table wk tr) k ≡ f → Fine sz start l p thread (jobName key) u (superseded f sz (table wk tr) e s (headerOf kind e (header wk s .uid) (header wk s .board)) (key ∷ v))
       go (At f) q = let b = room-says sz (table wk tr) k f h q in record { good = super-at f (b .0) (b .1) }
       go Nothing q = fine-refused g Full

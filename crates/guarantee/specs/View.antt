@@ -12,6 +12,7 @@ use native.Mathlib.Decide.{decLt}
 use Rattle.search.specs.Bools.{flag}
 use Rattle.image.specs.declared.header.Header.{Header}
 use Rattle.image.specs.Layout.{header, contents}
+use Rattle.image.specs.Name.{nameOf}
 use Rattle.transient.specs.declared.sizes.Sizes.{Sizes}
 use Rattle.transient.specs.Store.{Store}
 use Rattle.transient.specs.Layout.{retiredIn, isWaiting}
@@ -21,7 +22,7 @@ use Rattle.crash.specs.Slots.{Entry, Slot, Place}
 use Rattle.crash.specs.Steps.{entry}
 
 abbrev pub entryOf : Header → List ℕ → Entry
-entryOf h words = entry (h .kind) (h .epoch) (h .uid) (getD words 0 0) (drop 1 words)
+entryOf h words = entry (h .kind) (h .epoch) (h .uid) (nameOf (h .board) (getD words 0 0)) (drop 1 words)
 
 -- `before` is the list of c − 1, which is kept where that of c + 1 will be
 abbrev pub slotOf : Store → Sizes → ℕ → ℕ → Slot
@@ -35,7 +36,7 @@ slotOf st sz c s =
     }
 
 abbrev pub noSlot : Slot
-noSlot = record { working = entry 0 0 0 0 []; persistent = entry 0 0 0 0 []; retired = 0; now = 0; before = 0 }
+noSlot = record { working = entry 0 0 0 (nameOf 0 0) []; persistent = entry 0 0 0 (nameOf 0 0) []; retired = 0; now = 0; before = 0 }
 
 -- slots out of range are free
 unfoldable pub view : Store → Sizes → ℕ → ℕ → Slot

@@ -25,7 +25,7 @@ use Rattle.guarantee.specs.Says.{payload-says}
 pub data Case : Type 0 where
   -- "label 5, clock 7: kept"
   is-kept : (label clock : ℕ) → Bool → Case
-  -- "N 2, W 2: 13 words"
+  -- "its lengths 13 and 12,291 become 15 and 13,315"
   has-words : (n w words : ℕ) → Case
   -- "retired in 4: freed by the advance from 6"
   retired-freed : (epoch clock : ℕ) → Case
@@ -37,17 +37,17 @@ pub data Case : Type 0 where
 unfoldable pub lines : List Case
 lines =
     is-kept 5 7 true ∷ is-kept 6 7 false ∷ is-kept 2 3 false ∷ is-kept 2 4 true
-    ∷ has-words 2 2 13 ∷ has-words 1024 9 12291
+    ∷ has-words 2 2 15 ∷ has-words 1024 9 13315
     ∷ retired-freed 4 6 ∷ anti-freed 4 7
     ∷ survive 5 7 8 true 1 ∷ survive 5 7 9 false 0 ∷ []
 
 -- two slots of uid 1, an ALLOC and a DELETE, of the key 10
 abbrev pub twoVersions : ℕ → ℕ → ℕ → List ℕ
-twoVersions alloc anti clock = 2 ∷ 2 ∷ clock ∷ 1 ∷ alloc ∷ 1 ∷ 3 ∷ anti ∷ 1 ∷ 10 ∷ 100 ∷ 10 ∷ 0 ∷ []
+twoVersions alloc anti clock = 2 ∷ 2 ∷ clock ∷ 1 ∷ alloc ∷ 1 ∷ 1 ∷ 3 ∷ anti ∷ 1 ∷ 1 ∷ 10 ∷ 100 ∷ 10 ∷ 0 ∷ []
 
 -- what a line says, in terms of the definitions that the contracts and the trace use
 abbrev pub Says : Case → Type 0
-Says (is-kept e c b) = (uid : ℕ) → (kept c (headerOf 1 e uid) ≡ b) × (kept c (headerOf 2 e uid) ≡ b) × (kept c (headerOf 3 e uid) ≡ b)
+Says (is-kept e c b) = (uid board : ℕ) → (kept c (headerOf 1 e uid board) ≡ b) × (kept c (headerOf 2 e uid board) ≡ b) × (kept c (headerOf 3 e uid board) ≡ b)
 Says (has-words n w k) = imageWords n w ≡ k
 Says (retired-freed e c) = (z : Sizes) (tb : Table) (s d : ℕ) → payloadKind (header (tb .working) s .kind) ≡ true → retiredIn z (tb .transient) s ≡ e → due z tb d s ≡ eqb d c
 Says (anti-freed e c) = (z : Sizes) (tb : Table) (s d : ℕ) → header (tb .working) s .kind ≡ 3 → header (tb .working) s .epoch ≡ e → due z tb d s ≡ eqb d c
@@ -87,10 +87,10 @@ each P y ys here there x m = ⊎-elim (λ q. rw q here) (there x) (List·Memᴰ�
 pub worked : (x : Case) → List·Memᴰ x lines → Says x
 unfolding lines kept filledKind payloadKind header survivor beats survivorCount anyOf firstOf count
 worked =
-    each Says _ _ (λ uid. (refl, refl, refl))
-    (each Says _ _ (λ uid. (refl, refl, refl))
-    (each Says _ _ (λ uid. (refl, refl, refl))
-    (each Says _ _ (λ uid. (refl, refl, refl))
+    each Says _ _ (λ uid board. (refl, refl, refl))
+    (each Says _ _ (λ uid board. (refl, refl, refl))
+    (each Says _ _ (λ uid board. (refl, refl, refl))
+    (each Says _ _ (λ uid board. (refl, refl, refl))
     (each Says _ _ refl
     (each Says _ _ refl
     (each Says _ _ (λ z tb s d h q. retired-due z tb s d 4 h q (λ n. omega arith))

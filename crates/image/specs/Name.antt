@@ -8,7 +8,6 @@ use lib.ListN.{getD}
 use lib.Dec.{eqb}
 use borrow.Author.Tests.{eqb-true, eqb-false, eq-eqb}
 use Rattle.search.specs.Bools.{cases, never, refuted, and-left, and-right, and-both}
-use Rattle.image.specs.declared.header.Header.{Header}
 use Rattle.image.specs.declared.name.Name.{Name}
 use Rattle.image.specs.Layout.{jobsBoard, contentsAt, header, keyAt}
 
