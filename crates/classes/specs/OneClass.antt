@@ -7,7 +7,7 @@ use mathlib.Core.List.{List}
 use lib.Dec.{leb, ltb, eqb}
 use borrow.Author.Tests.{lt-ltb, le-ltb, leb-true, leb-false, eqb-true}
 use native.Mathlib.Omega.{arith}
-use Rattle.search.specs.Bools.{cases, never, refuted, and-right, flag}
+use Rattle.search.specs.Bools.{cases, never, refuted, and-left, and-right, flag}
 use Rattle.search.specs.Count.{count, count-more}
 use Rattle.reply.specs.declared.Check.the-variants.{Accepted}
 use Rattle.image.specs.declared.header.Header.{Header}
