@@ -225,11 +225,12 @@ fn every_mark_that_a_job_call_leaves_has_its_board() {
 #[test]
 fn a_key_on_another_board_is_no_job() {
     for board in OTHER_BOARDS {
-        let mut store = fresh(4, 1);
+        let mut store = fresh(4, 2);
         make(&mut store, &[BEGIN, new(0, 9)]);
         assert_eq!(simulate(&mut store.clone(), &new(0, 9)), 11);
         stray(&mut store, 0, board);
         assert_eq!(refusals_of_a_look(&store, 0, 9), [10; 4], "board {board}");
+        assert_eq!(refusals_of_a_look(&store, 1, 9), [10, 10, 7, 7], "board {board}, no operation open");
         make(&mut store, &[new(0, 9)]);
         let marks = [0, 1].map(|slot| mark(&store.working, slot));
         assert_eq!(marks, [[ALLOC, 2, 1, board], [ALLOC, 2, 2, JOBS]]);

@@ -154,20 +154,22 @@ fn marks_that_job_calls_leave() -> usize {
     calls
 }
 
-/// A live slot that damage has put on another board is no job: read, set and delete give 10, and new is accepted.
+/// A live slot that damage has put on another board is no job: read, set and delete give 10, and new is accepted. Thread 1
+/// has no operation open.
 fn a_key_on_another_board() -> usize {
+    let idle_read = Call::Read { thread: 1, key: 9 };
     let mut calls = 0;
     for board in OTHER_BOARDS {
-        let mut store = sized(4, 2, 1);
-        calls += make(&mut store, &[(Call::Format { slots: 4, words: 2 }, 0), (BEGIN, 0), (new(9, &[5]), 0)]);
-        calls += make(&mut store, &[(new(9, &[5]), 11)]);
+        let mut store = sized(4, 2, 2);
+        let job = [(Call::Format { slots: 4, words: 2 }, 0), (BEGIN, 0), (new(9, &[5]), 0), (new(9, &[5]), 11)];
+        calls += make(&mut store, &job) + make(&mut store, &[(idle_read.clone(), value_place(4, 2, 0))]);
         stray(&mut store, 0, board);
-        calls +=
-            make(&mut store, &[(read(9), refused(10)), (read_refusal(9), 10), (set(9, &[6]), 10), (delete(9), 10)]);
-        calls += make(&mut store, &[(new(9, &[7]), 0)]);
+        let no_job = [(read(9), refused(10)), (read_refusal(9), 10), (set(9, &[6]), 10), (delete(9), 10)];
+        calls += make(&mut store, &no_job) + make(&mut store, &[(idle_read.clone(), refused(10)), (new(9, &[7]), 0)]);
         assert_eq!([0, 1].map(|slot| mark(&store.working, slot)), [[ALLOC, 2, 1, board], [ALLOC, 2, 2, JOBS]]);
+        let beside_it = [read(9), idle_read.clone()].map(|read| (read, value_place(4, 2, 1)));
         calls +=
-            make(&mut store, &[(read(9), value_place(4, 2, 1)), (new(9, &[8]), 11), (set(9, &[8]), 0), (delete(9), 0)]);
+            make(&mut store, &beside_it) + make(&mut store, &[(new(9, &[8]), 11), (set(9, &[8]), 0), (delete(9), 0)]);
     }
     calls
 }
