@@ -4,7 +4,8 @@
 #include "board.h"
 #include "checks.h"
 
-enum { SLOTS = 8, WORDS = 3, THREADS = 2, VALUE_WORDS = WORDS - 1, HEADER_WORDS = 4 };
+enum { SLOTS = 8, WORDS = 3, THREADS = 2, VALUE_WORDS = WORDS - 1 };
+enum { KIND, EPOCH, UID, BOARD, HEADER_WORDS };
 
 _Static_assert(BOARD_STILL_OPEN == 14 && BOARD_LAST_EPOCH == 15 && BOARD_NO_LINE == 16, "the header's refusals");
 _Static_assert(BOARD_STORED == 0 && BOARD_TICKED == 1, "what an advance call did");
@@ -31,7 +32,7 @@ int main(void)
     same("its header is not there yet", p[header], 0);
     same("the job's header", board_advance(w, n, p, n, t, tn), BOARD_STORED);
     same("the kind in persistent", p[header], 1);
-    same("the board in persistent", p[header + 3], 1);
+    same("the board in persistent", p[header + BOARD], 1);
     same("the survivors before the tick", board_survivors((const uint8_t *)p, 4 * n), 0);
     same("the clock", board_advance(w, n, p, n, t, tn), BOARD_TICKED);
     same("the survivors after it", board_survivors((const uint8_t *)p, 4 * n), 1);
@@ -43,7 +44,7 @@ int main(void)
     same("end of it", board_end(w, n, p, n, t, tn, 1), 0);
     same("the DELETE's header written back", board_write_back(w, n, p, n, t, tn, 1, 1), 0);
     same("the kind there", p[header + HEADER_WORDS], 3);
-    same("the board there", p[header + HEADER_WORDS + 3], 1);
+    same("the board there", p[header + HEADER_WORDS + BOARD], 1);
 
     /* the power is cut: the delete is of the clock's epoch and is lost, the job is not */
     memset(w, 0x5A, n * sizeof *w);

@@ -95,7 +95,7 @@ fn other_board(random: &mut Random) -> u32 {
     }
 }
 
-/// Puts a few slots on other boards, kept payloads more often than others, and gives most of them the key of such a one.
+/// Puts a few slots on other boards, kept payloads more often than others, and gives most of them the key of one.
 pub fn damage_boards(random: &mut Random, sizes: Sizes, image: &mut [u32]) {
     let is_kept_payload = |header: Header| header.is_payload() && header.is_kept(image[CLOCK]);
     let kept: Vec<usize> = (0..sizes.slots).filter(|&slot| is_kept_payload(sizes.header(image, slot))).collect();

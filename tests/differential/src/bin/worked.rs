@@ -88,7 +88,7 @@ fn each_declines_with_1(store: &mut Store, value: &[u32]) -> usize {
     made
 }
 
-/// Images of N 4, W 2 with marks of three words, as the old format left them, and the notes of that N: no call takes them.
+/// Images of N 4, W 2 with marks of three words, as the old format left them, and notes of that N: no call takes them.
 fn marks_of_three_words() -> usize {
     let old_header_words = 3;
     let mut store = sized(4, 2, 1);
@@ -154,8 +154,8 @@ fn marks_that_job_calls_leave() -> usize {
     calls
 }
 
-/// A live slot that damage has put on another board is no job: read, set and delete give 10, and new is accepted. Thread 1
-/// has no operation open.
+/// A live slot that damage has put on another board is no job: read, set and delete give 10, and new is accepted.
+/// Thread 1 has no operation open.
 fn a_key_on_another_board() -> usize {
     let idle_read = Call::Read { thread: 1, key: 9 };
     let mut calls = 0;
