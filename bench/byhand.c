@@ -13,11 +13,13 @@
 #endif
 
 enum { FREE, ALLOC, UPDATE, DELETE };
-enum { KIND, EPOCH, UID, HEADER_WORDS };
+enum { KIND, EPOCH, UID, BOARD, HEADER_WORDS };
+enum { JOBS = 1 }; /* the board of jobs, the only one yet */
 enum { SLOTS, WORDS, CLOCK, PREFIX };
 enum { NOTED_SLOTS, LAST_TAKEN, NEXT_UID, PHASE, PLACE_SLOT, NOTES };
 enum { IDLE, RECLAIMING, CONTENTS, HEADER, TICK };
-enum { MOST_SLOTS = 1024, MOST_WORDS = 9, MOST_THREADS = 16, MOST_IMAGE = 12291 };
+enum { MOST_SLOTS = 1024, MOST_WORDS = 9, MOST_THREADS = 16 };
+enum { MOST_IMAGE = PREFIX + (HEADER_WORDS + MOST_WORDS) * MOST_SLOTS };
 #define LARGEST UINT32_C(4000000000)
 #define NONE SIZE_MAX
 
@@ -136,13 +138,13 @@ uint32_t BYHAND(end)(NOTES_STORE, uint32_t thread)
     return 0;
 }
 
-/* Refusal 9, else 0 and the lowest live slot of the key, or NONE. */
+/* Refusal 9, else 0 and the lowest live slot of the job's key, or NONE. */
 static uint32_t look_up(const struct board *b, uint32_t key, uint32_t epoch, size_t *live)
 {
     *live = NONE;
     for (size_t s = 0; s < b->slots; s++) {
         const uint32_t *header = b->headers + HEADER_WORDS * s;
-        if (b->contents[b->words * s] != key || !filled(header[KIND]))
+        if (b->contents[b->words * s] != key || header[BOARD] != JOBS || !filled(header[KIND]))
             continue;
         if (header[EPOCH] > epoch)
             return BOARD_NEWER;
@@ -152,12 +154,14 @@ static uint32_t look_up(const struct board *b, uint32_t key, uint32_t epoch, siz
     return 0;
 }
 
-/* The lowest live slot of the key, or NONE. */
+/* The lowest live slot of the job's key, or NONE. */
 static size_t find_live(const struct board *b, uint32_t key)
 {
-    for (size_t s = 0; s < b->slots; s++)
-        if (b->contents[b->words * s] == key && payload(b->headers[HEADER_WORDS * s]) && b->retired[s] == 0)
+    for (size_t s = 0; s < b->slots; s++) {
+        const uint32_t *header = b->headers + HEADER_WORDS * s;
+        if (b->contents[b->words * s] == key && header[BOARD] == JOBS && payload(header[KIND]) && b->retired[s] == 0)
             return s;
+    }
     return NONE;
 }
 
@@ -195,19 +199,17 @@ static size_t room(const struct board *b, size_t needed)
 }
 
 /* A free slot is taken; a value of NULL is zeros. */
-static void take(const struct board *b, size_t slot, uint32_t kind, uint32_t epoch, uint32_t uid, uint32_t key,
+static void take(const struct board *b, size_t slot, const uint32_t header[HEADER_WORDS], uint32_t key,
                  const uint32_t *value)
 {
-    uint32_t *header = b->headers + HEADER_WORDS * slot, *contents = b->contents + b->words * slot;
-    header[KIND] = kind;
-    header[EPOCH] = epoch;
-    header[UID] = uid;
+    uint32_t *contents = b->contents + b->words * slot;
+    memcpy(b->headers + HEADER_WORDS * slot, header, HEADER_WORDS * sizeof *header);
     contents[0] = key;
     for (size_t i = 1; i < b->words; i++)
         contents[i] = value != NULL ? value[i - 1] : 0;
     b->notes[LAST_TAKEN] = (uint32_t)slot;
     b->retired[slot] = 0;
-    waiting(b, epoch)[slot] = 1;
+    waiting(b, header[EPOCH])[slot] = 1;
 }
 
 uint32_t BYHAND(new)(CHANGE_STORE, uint32_t thread, uint32_t key, const uint32_t *value, size_t value_words)
@@ -227,7 +229,7 @@ uint32_t BYHAND(new)(CHANGE_STORE, uint32_t thread, uint32_t key, const uint32_t
     size_t slot = room(&b, 2);
     if (slot == NONE)
         return BOARD_FULL;
-    take(&b, slot, ALLOC, epoch, uid, key, value);
+    take(&b, slot, (uint32_t[]){ALLOC, epoch, uid, JOBS}, key, value);
     b.notes[NEXT_UID] = uid + 1;
     return 0;
 }
@@ -252,7 +254,7 @@ uint32_t BYHAND(set)(CHANGE_STORE, uint32_t thread, uint32_t key, const uint32_t
     size_t slot = room(&b, 2);
     if (slot == NONE)
         return BOARD_FULL;
-    take(&b, slot, UPDATE, epoch, header[UID], key, value);
+    take(&b, slot, (uint32_t[]){UPDATE, epoch, header[UID], header[BOARD]}, key, value);
     b.retired[live] = epoch;
     return 0;
 }
@@ -282,7 +284,7 @@ uint32_t BYHAND(delete)(CHANGE_STORE, uint32_t thread, uint32_t key)
     size_t slot = room(&b, 1);
     if (slot == NONE)
         return BOARD_FULL;
-    take(&b, slot, DELETE, epoch, header[UID], key, NULL);
+    take(&b, slot, (uint32_t[]){DELETE, epoch, header[UID], header[BOARD]}, key, NULL);
     b.retired[live] = epoch;
     return 0;
 }
@@ -439,8 +441,9 @@ static bool kept(const uint32_t *header, uint32_t clock)
 static bool proper(const uint32_t *header, uint32_t clock)
 {
     if (header[KIND] == FREE)
-        return header[EPOCH] == 0 && header[UID] == 0;
-    return header[KIND] <= DELETE && header[EPOCH] >= 2 && header[EPOCH] <= clock && header[UID] - 1 < LARGEST;
+        return header[EPOCH] == 0 && header[UID] == 0 && header[BOARD] == 0;
+    return header[KIND] <= DELETE && header[EPOCH] >= 2 && header[EPOCH] <= clock && header[UID] - 1 < LARGEST &&
+           header[BOARD] == JOBS;
 }
 
 /* Refusals 1 to 4 of an image, and which of its slots survive. Every pair of kept slots is looked at once. */
@@ -476,7 +479,8 @@ static uint32_t judge(const uint32_t *image, size_t length, bool survives[MOST_S
             return BOARD_BAD_SLOT;
     for (size_t s = 0; s < slots && !twice; s++)
         for (size_t t = 0; survives[s] && t < s; t++)
-            if (contents[words * t] == contents[words * s] && survives[t])
+            if (contents[words * t] == contents[words * s] && survives[t] &&
+                headers[HEADER_WORDS * t + BOARD] == headers[HEADER_WORDS * s + BOARD])
                 twice = true;
     return twice ? BOARD_DUPLICATE : 0;
 }

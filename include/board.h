@@ -6,10 +6,21 @@
  *   persistent  the image that survives a power cut, of the same layout and length;
  *   transient   the store's notes; ordinary memory.
  *
- * An image of N slots (2 to 1,024) with W words of contents each (2 to 9) has 3 + 3N + WN words:
- * N, W, the clock, then N headers (kind, epoch, uid), then N contents (key, W - 1 value words).
- * The notes of T threads (1 to 16) have 5 + T + 3N words and begin with N; T is what their length
- * leaves. board_image_words and board_transient_words work the lengths out.
+ * An image of N slots (2 to 1,024) with W words of contents each (2 to 9) has 3 + 4N + WN words:
+ * N, W, the clock, then N headers (kind, epoch, uid, board), then N contents (key, W - 1 value
+ * words). The smallest has 15 words, the largest 13,315, which are 53,260 bytes. A header that is
+ * free is four zeros. The notes of T threads (1 to 16) have 5 + T + 3N words and begin with N; T is
+ * what their length leaves. board_image_words and board_transient_words work the lengths out.
+ *
+ * The board word says what a slot holds: 1 is a job. Other boards will come to stand beside the
+ * jobs, with keys of their own; today 1 is the only one. You never pass it: new writes it, set and
+ * delete carry it on, the calls on jobs look at no slot of another board, and an image with another
+ * in a filled header is refused by recover and by the questions (BOARD_BAD_SLOT).
+ *
+ * An older layout had headers of three words, without the board. Every call refuses an image of it
+ * (BOARD_SIZES), as it is N words shorter than its N and W ask for. There is no conversion: empty
+ * the board with the old library, and make it anew with board_format. The length is all that tells
+ * the two apart, so hand over the one that the image has: do not lengthen an old file first.
  *
  * The three belong together: a call refuses images that differ in N or W, and notes of another N
  * (BOARD_SIZES). It cannot tell the notes of another store with the same N from the right ones.
@@ -66,7 +77,8 @@ enum board_refusal {
                                 of different sizes, or notes with a slot or next uid out of range */
     BOARD_CLOCK = 2,         /* the clock is not between 2 and 4,000,000,000, the images' clocks differ,
                                 or an operation is open in neither the clock's epoch nor the one before */
-    BOARD_BAD_SLOT = 3,      /* a header neither free nor proper, or a surviving job with key 0 */
+    BOARD_BAD_SLOT = 3,      /* a header neither free nor proper, such as one of another board than 1, or
+                                a surviving job with key 0 */
     BOARD_DUPLICATE = 4,     /* two kept slots of one uid and epoch, or two surviving jobs of one key */
     BOARD_NO_THREAD = 5,     /* the thread number is not below T */
     BOARD_ALREADY_OPEN = 6,  /* the thread has an operation open */
@@ -114,8 +126,8 @@ static inline const char *board_refusal_text(uint64_t answer)
 
 /* ---- Making a store ---- */
 
-/* The words to allocate for an image of N slots of W words of contents, and for the notes of T
- * threads; 0 where a size is out of range. */
+/* The words to allocate for an image of N slots of W words of contents, 3 + 4N + WN, and for the notes
+ * of T threads, 5 + T + 3N; 0 where a size is out of range. */
 size_t board_image_words(uint32_t slots, uint32_t words);
 size_t board_transient_words(uint32_t slots, uint32_t threads);
 
@@ -215,9 +227,9 @@ uint64_t board_sync(uint32_t *working, size_t working_words,
                     uint32_t *persistent, size_t persistent_words,
                     uint32_t *transient, size_t transient_words);
 
-/* Copies one line of a slot from working to persistent: its contents (line 0) or its header (line 1).
- * No server needs it. It stands for what a cache does by itself at any moment, and is harmless
- * between any two calls; tests use it to show that. It answers 0 or the refusal.
+/* Copies one line of a slot from working to persistent: its contents (line 0) or the four words of
+ * its header (line 1). No server needs it. It stands for what a cache does by itself at any moment,
+ * and is harmless between any two calls; tests use it to show that. It answers 0 or the refusal.
  * Refusals: BOARD_NO_LINE. */
 uint32_t board_write_back(const uint32_t *working, size_t working_words,
                           uint32_t *persistent, size_t persistent_words,

@@ -5,6 +5,7 @@
 #include "checks.h"
 
 enum { SLOTS = 8, WORDS = 3, THREADS = 2, VALUE_WORDS = WORDS - 1 };
+enum { KIND, EPOCH, UID, BOARD, HEADER_WORDS };
 
 _Static_assert(BOARD_STILL_OPEN == 14 && BOARD_LAST_EPOCH == 15 && BOARD_NO_LINE == 16, "the header's refusals");
 _Static_assert(BOARD_STORED == 0 && BOARD_TICKED == 1, "what an advance call did");
@@ -14,7 +15,7 @@ int main(void)
     const size_t n = board_image_words(SLOTS, WORDS), tn = board_transient_words(SLOTS, THREADS);
     uint32_t *w = block(n), *p = block(n), *t = block(tn);
     const uint32_t value[VALUE_WORDS] = {31, 32};
-    const size_t header = 3, contents = 3 + 3 * SLOTS;
+    const size_t header = 3, contents = header + HEADER_WORDS * SLOTS;
 
     same("format", board_format(w, n, p, n, t, tn, SLOTS, WORDS), 0);
     same("a sync where nothing changed", board_sync(w, n, p, n, t, tn), 2);
@@ -31,6 +32,7 @@ int main(void)
     same("its header is not there yet", p[header], 0);
     same("the job's header", board_advance(w, n, p, n, t, tn), BOARD_STORED);
     same("the kind in persistent", p[header], 1);
+    same("the board in persistent", p[header + BOARD], 1);
     same("the survivors before the tick", board_survivors((const uint8_t *)p, 4 * n), 0);
     same("the clock", board_advance(w, n, p, n, t, tn), BOARD_TICKED);
     same("the survivors after it", board_survivors((const uint8_t *)p, 4 * n), 1);
@@ -41,7 +43,8 @@ int main(void)
     same("delete", board_delete(w, n, p, n, t, tn, 1, 7), 0);
     same("end of it", board_end(w, n, p, n, t, tn, 1), 0);
     same("the DELETE's header written back", board_write_back(w, n, p, n, t, tn, 1, 1), 0);
-    same("the kind there", p[header + 3], 3);
+    same("the kind there", p[header + HEADER_WORDS], 3);
+    same("the board there", p[header + HEADER_WORDS + BOARD], 1);
 
     /* the power is cut: the delete is of the clock's epoch and is lost, the job is not */
     memset(w, 0x5A, n * sizeof *w);

@@ -1,5 +1,6 @@
-/* A store handed the notes of other sizes, through the header. They are just as long: with 3 slots and 4 threads as with
-   4 slots and 1 thread. Every call but format and recover declines and changes nothing.
+/* Stores of other sizes, through the header. Notes of other sizes that are just as long, with 3 slots and 4 threads as
+   with 4 slots and 1 thread: every call but format and recover declines and changes nothing. Images of the old layout,
+   three words a header: every call does.
    Usage: sizes */
 
 #include "board.h"
@@ -7,7 +8,7 @@
 
 #include <stdbool.h>
 
-enum { WORDS = 3, VALUE_WORDS = WORDS - 1, KEY = 7 };
+enum { WORDS = 3, VALUE_WORDS = WORDS - 1, KEY = 7, PREFIX = 3, OLD_HEADER_WORDS = 3 };
 
 struct store {
     uint32_t slots, threads;
@@ -19,13 +20,20 @@ struct store {
 
 static const uint32_t value[VALUE_WORDS] = {41, 42};
 
-static struct store new_store(uint32_t slots, uint32_t threads)
+/* Three blocks, the images of this length. */
+static struct store blocks(uint32_t slots, uint32_t threads, size_t image)
 {
-    struct store s = {.slots = slots, .threads = threads, .image = board_image_words(slots, WORDS),
+    struct store s = {.slots = slots, .threads = threads, .image = image,
                       .notes = board_transient_words(slots, threads)};
     s.working = block(s.image);
     s.persistent = block(s.image);
     s.transient = block(s.notes);
+    return s;
+}
+
+static struct store new_store(uint32_t slots, uint32_t threads)
+{
+    struct store s = blocks(slots, threads, board_image_words(slots, WORDS));
     same("format", board_format(STORE(&s), slots, WORDS), 0);
     return s;
 }
@@ -105,8 +113,44 @@ static void with_notes_of(uint32_t slots, uint32_t threads, uint32_t other_slots
     free_store(&before);
 }
 
+/* An image as the old library left it: one job, made in epoch 2, at clock 4. */
+static void old_image(uint32_t *image, uint32_t slots)
+{
+    const uint32_t start[] = {slots, WORDS, 4, 1, 2, 1};
+    const size_t contents = PREFIX + OLD_HEADER_WORDS * slots;
+    memset(image, 0, (contents + WORDS * slots) * sizeof *image);
+    memcpy(image, start, sizeof start);
+    image[contents] = KEY;
+    memcpy(image + contents + 1, value, sizeof value);
+}
+
+/* Both images are of the old layout and as long as they were; the notes are those of a new store. */
+static void of_the_old_layout(uint32_t slots)
+{
+    const uint64_t wide = BOARD_REFUSED + BOARD_SIZES;
+    const size_t image = PREFIX + (OLD_HEADER_WORDS + WORDS) * slots;
+    struct store fresh = new_store(slots, 1), s = blocks(slots, 1, image), before = blocks(slots, 1, image);
+    old_image(s.working, slots);
+    old_image(s.persistent, slots);
+    memcpy(s.transient, fresh.transient, s.notes * sizeof *s.transient);
+    copy_store(&before, &s);
+    each_declines(&s, &before);
+    same("recover", board_recover(STORE(&s)), wide);
+    same("recover changes nothing", same_store(&s, &before), true);
+    same("format", board_format(STORE(&s), slots, WORDS), BOARD_SIZES);
+    same("format changes nothing", same_store(&s, &before), true);
+    same("the clock", board_clock((const uint8_t *)s.persistent, s.image * sizeof *s.persistent), wide);
+    same("the survivors", board_survivors((const uint8_t *)s.persistent, s.image * sizeof *s.persistent), wide);
+    free_store(&fresh);
+    free_store(&s);
+    free_store(&before);
+}
+
 int main(void)
 {
+    of_the_old_layout(2);
+    of_the_old_layout(5);
+    of_the_old_layout(1024);
     for (int used = 0; used < 2; used++) {
         with_notes_of(3, 4, 4, 1, used);
         with_notes_of(4, 1, 3, 4, used);

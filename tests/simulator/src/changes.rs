@@ -1,6 +1,6 @@
 //! Format and the calls on jobs.
 
-use crate::image::{Header, Sizes, ALLOC, CLOCK, DELETE, FIRST_CLOCK, LARGEST, UPDATE};
+use crate::image::{job, Header, Name, Sizes, ALLOC, CLOCK, DELETE, FIRST_CLOCK, JOBS, LARGEST, UPDATE};
 use crate::store::{Entry, Refusal, Store};
 use crate::transient::{Layout, LAST_TAKEN, NEXT_UID};
 
@@ -42,12 +42,12 @@ pub fn end(store: &mut Store, thread: u32) -> Result<(), Refusal> {
     Ok(())
 }
 
-/// "New takes a free slot: ALLOC, label e, the next uid."
+/// "New takes a free slot: ALLOC, label e, the next uid." It stands on the board of jobs.
 pub fn new(store: &mut Store, thread: u32, key: u32, value: &[u32]) -> Result<(), Refusal> {
     let (entry, epoch) = open_operation(store, thread)?;
     judge_key(&entry, key, Some(value))?;
-    judge_newer(store, &entry, epoch, key)?;
-    if live_slot(store, &entry, key).is_some() {
+    judge_newer(store, &entry, epoch, job(key))?;
+    if live_slot(store, &entry, job(key)).is_some() {
         return Err(11);
     }
     let uid = store.transient[NEXT_UID];
@@ -56,17 +56,18 @@ pub fn new(store: &mut Store, thread: u32, key: u32, value: &[u32]) -> Result<()
     }
     let slot = free_slot(store, &entry, 2)?;
     store.transient[NEXT_UID] = uid + 1;
-    take(store, &entry, slot, Header { kind: ALLOC, epoch, uid }, key, value);
+    take(store, &entry, slot, Header { kind: ALLOC, epoch, uid, board: JOBS }, key, value);
     Ok(())
 }
 
 /// "Set on a payload labelled e rewrites the value in its slot. On an older one it takes a free slot
 /// for an UPDATE (label e, same uid and key) and retires the old one in e."
+/// 02, No. 2: "A new version and a DELETE carry their payload's board."
 pub fn set(store: &mut Store, thread: u32, key: u32, value: &[u32]) -> Result<(), Refusal> {
     let (entry, epoch) = open_operation(store, thread)?;
     judge_key(&entry, key, Some(value))?;
-    judge_newer(store, &entry, epoch, key)?;
-    let old = live_slot(store, &entry, key).ok_or(10u32)?;
+    judge_newer(store, &entry, epoch, job(key))?;
+    let old = live_slot(store, &entry, job(key)).ok_or(10u32)?;
     let header = entry.header(store, old);
     if header.epoch == epoch {
         entry.sizes.set_contents(&mut store.working, old, key, value);
@@ -74,7 +75,7 @@ pub fn set(store: &mut Store, thread: u32, key: u32, value: &[u32]) -> Result<()
         return Ok(());
     }
     let slot = free_slot(store, &entry, 2)?;
-    take(store, &entry, slot, Header { kind: UPDATE, epoch, uid: header.uid }, key, value);
+    take(store, &entry, slot, Header { kind: UPDATE, epoch, ..header }, key, value);
     store.transient[entry.layout.retired(old)] = epoch;
     Ok(())
 }
@@ -82,10 +83,10 @@ pub fn set(store: &mut Store, thread: u32, key: u32, value: &[u32]) -> Result<()
 pub fn delete(store: &mut Store, thread: u32, key: u32) -> Result<(), Refusal> {
     let (entry, epoch) = open_operation(store, thread)?;
     judge_key(&entry, key, None)?;
-    judge_newer(store, &entry, epoch, key)?;
-    let old = live_slot(store, &entry, key).ok_or(10u32)?;
+    judge_newer(store, &entry, epoch, job(key))?;
+    let old = live_slot(store, &entry, job(key)).ok_or(10u32)?;
     let header = entry.header(store, old);
-    let anti = Header { kind: DELETE, epoch, uid: header.uid };
+    let anti = Header { kind: DELETE, epoch, ..header };
     if header.epoch == epoch {
         // "Delete of an ALLOC labelled e frees the working slot at once. An UPDATE labelled e becomes
         // DELETE in its own slot, contents kept."
@@ -109,9 +110,9 @@ pub fn read(store: &Store, thread: u32, key: u32) -> Result<usize, Refusal> {
     judge_key(&entry, key, None)?;
     let epoch = entry.open(store, thread);
     if epoch != 0 {
-        judge_newer(store, &entry, epoch, key)?;
+        judge_newer(store, &entry, epoch, job(key))?;
     }
-    let slot = live_slot(store, &entry, key).ok_or(10u32)?;
+    let slot = live_slot(store, &entry, job(key)).ok_or(10u32)?;
     Ok(entry.sizes.value_part(slot).start)
 }
 
@@ -146,10 +147,11 @@ fn judge_key(entry: &Entry, key: u32, value: Option<&[u32]>) -> Result<(), Refus
 }
 
 /// Refusal 9: "a filled slot with this key is labelled above e"
-fn judge_newer(store: &Store, entry: &Entry, epoch: u32, key: u32) -> Result<(), Refusal> {
+/// 02, No. 2: "the newer-label check and recovery's equal-key check look within one board"
+fn judge_newer(store: &Store, entry: &Entry, epoch: u32, name: Name) -> Result<(), Refusal> {
     let newer = |slot: usize| {
         let header = entry.header(store, slot);
-        header.is_filled() && header.epoch > epoch && entry.sizes.key(&store.working, slot) == key
+        header.is_filled() && header.epoch > epoch && entry.sizes.name(&store.working, slot) == name
     };
     if entry.slots().any(newer) {
         Err(9)
@@ -159,8 +161,8 @@ fn judge_newer(store: &Store, entry: &Entry, epoch: u32, key: u32) -> Result<(),
 }
 
 /// "of several live slots with one key, the lowest"
-fn live_slot(store: &Store, entry: &Entry, key: u32) -> Option<usize> {
-    entry.slots().find(|&slot| entry.is_live(store, slot) && entry.sizes.key(&store.working, slot) == key)
+fn live_slot(store: &Store, entry: &Entry, name: Name) -> Option<usize> {
+    entry.slots().find(|&slot| entry.is_live(store, slot) && entry.sizes.name(&store.working, slot) == name)
 }
 
 /// "The free slot taken is the first met going up from the slot after the last one taken, round past the end".

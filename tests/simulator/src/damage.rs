@@ -1,6 +1,6 @@
 //! Images and stores that were not left by a run: some that are in order, and many that are not.
 
-use crate::image::{Header, Sizes, CLOCK, FIRST_CLOCK, LARGEST};
+use crate::image::{Header, Sizes, CLOCK, FIRST_CLOCK, JOBS, LARGEST};
 use crate::random::Random;
 use crate::store::Store;
 use crate::transient::{Layout, LAST_TAKEN, NOTED_SLOTS, PHASE, PLACE_SLOT};
@@ -40,7 +40,7 @@ pub fn acceptable_image(random: &mut Random, sizes: Sizes, clock: u32, most_fill
         for _ in 0..random.between(1, 4).min(left as u32).min(epochs.len() as u32) {
             let slot = free.swap_remove(random.below(free.len()));
             let epoch = epochs.swap_remove(random.below(epochs.len()));
-            let header = Header { kind: random.between(1, 3), epoch, uid };
+            let header = Header { kind: random.between(1, 3), epoch, uid, board: JOBS };
             let value = random.junk(sizes.value_words());
             sizes.set_header(&mut image, slot, header);
             sizes.set_contents(&mut image, slot, job + 1, &value);
@@ -55,10 +55,11 @@ fn recent_epochs(clock: u32) -> std::ops::RangeInclusive<u32> {
     clock.saturating_sub(6).max(FIRST_CLOCK)..=clock
 }
 
-/// Properly filled marks with few uids and few keys, so that equal ones are common.
+/// Properly filled marks with few uids and few keys, so that equal ones are common; in one image of five on any boards.
 pub fn crowded_image(random: &mut Random, sizes: Sizes, clock: u32) -> Vec<u32> {
     let mut image = bare_image(random, sizes, clock);
     let most = 2 * sizes.slots as u32;
+    let has_boards = random.chance(20);
     let least_key = if random.chance(20) { 0 } else { 1 };
     for slot in 0..sizes.slots {
         if random.chance(25) {
@@ -66,13 +67,46 @@ pub fn crowded_image(random: &mut Random, sizes: Sizes, clock: u32) -> Vec<u32> 
         }
         let epochs = recent_epochs(clock);
         let epoch = random.between(*epochs.start(), *epochs.end());
-        let header = Header { kind: random.between(1, 3), epoch, uid: random.between(1, most) };
+        let board = if has_boards { any_board(random) } else { JOBS };
+        let header = Header { kind: random.between(1, 3), epoch, uid: random.between(1, most), board };
         let value = random.junk(sizes.value_words());
         let key = random.between(least_key, most);
         sizes.set_header(&mut image, slot, header);
         sizes.set_contents(&mut image, slot, key, &value);
     }
     image
+}
+
+/// The board of jobs, none, that of a later request, or any word.
+fn any_board(random: &mut Random) -> u32 {
+    if random.chance(50) {
+        JOBS
+    } else {
+        other_board(random)
+    }
+}
+
+fn other_board(random: &mut Random) -> u32 {
+    match random.below(8) {
+        0 | 1 => 0,
+        2..=4 => 2,
+        5 => u32::MAX,
+        _ => random.word().max(JOBS + 1),
+    }
+}
+
+/// Puts a few slots on other boards, kept payloads more often than others, and gives most of them the key of one.
+pub fn damage_boards(random: &mut Random, sizes: Sizes, image: &mut [u32]) {
+    let is_kept_payload = |header: Header| header.is_payload() && header.is_kept(image[CLOCK]);
+    let kept: Vec<usize> = (0..sizes.slots).filter(|&slot| is_kept_payload(sizes.header(image, slot))).collect();
+    for _ in 0..random.between(1, 3) {
+        let slot = if kept.is_empty() || random.chance(40) { random.below(sizes.slots) } else { random.pick(&kept) };
+        let header = sizes.header(image, slot);
+        sizes.set_header(image, slot, Header { board: other_board(random), ..header });
+        if !kept.is_empty() && random.chance(75) {
+            image[sizes.contents_line(slot).start] = sizes.key(image, random.pick(&kept));
+        }
+    }
 }
 
 /// A word that is likely to be at the edge of some rule.
@@ -119,12 +153,14 @@ pub fn any_image(random: &mut Random, sizes: Sizes) -> Vec<u32> {
         image[CLOCK] = random.pick(&[0, 1, LARGEST + 1, u32::MAX]);
     } else if random.chance(20) {
         damage_word(random, &mut image);
+    } else if random.chance(15) {
+        damage_boards(random, sizes, &mut image);
     }
     image
 }
 
 /// A copy with a few words replaced and now and then a wrong length; or a copy in which all is sound but the notes,
-/// which say another N, alone or with the T that it leaves for their length.
+/// which say another N, alone or with the T that it leaves for their length; or one with marks on other boards.
 pub fn damaged_store(random: &mut Random, store: &Store) -> Store {
     let mut store = store.clone();
     let other_notes = notes_of_other_sizes(&store);
@@ -139,6 +175,9 @@ pub fn damaged_store(random: &mut Random, store: &Store) -> Store {
         store.transient[NOTED_SLOTS] = edge_word(random, store.transient[NOTED_SLOTS]);
         return store;
     }
+    if random.chance(20) {
+        return store_on_other_boards(random, store);
+    }
     for _ in 0..random.between(1, 3) {
         let slice = random.below(3);
         damage_word(random, store.slices()[slice]);
@@ -146,6 +185,21 @@ pub fn damaged_store(random: &mut Random, store: &Store) -> Store {
     if random.chance(10) {
         let slice = random.below(3);
         damage_length(random, store.slices()[slice]);
+    }
+    store
+}
+
+/// Other boards in working, and there some labels above every epoch that can be open: such a slot is no job, and no
+/// change of one, whatever its key.
+fn store_on_other_boards(random: &mut Random, mut store: Store) -> Store {
+    let Ok(entry) = store.enter() else { return store };
+    damage_boards(random, entry.sizes, &mut store.working);
+    for slot in entry.slots() {
+        let header = entry.header(&store, slot);
+        if header.is_filled() && header.board != JOBS && random.chance(50) {
+            let newer = Header { epoch: entry.clock + 1, ..header };
+            entry.sizes.set_header(&mut store.working, slot, newer);
+        }
     }
     store
 }
@@ -183,7 +237,8 @@ fn wild_image(random: &mut Random, sizes: Sizes, clock: u32) -> Vec<u32> {
     let mut image = bare_image(random, sizes, clock);
     for slot in 0..sizes.slots {
         let kind = random.pick(&[0, 0, 1, 1, 2, 2, 3, 4, u32::MAX]);
-        let header = Header { kind, epoch: wild_epoch(random, clock), uid: edge_word(random, 1) };
+        let board = any_board(random);
+        let header = Header { kind, epoch: wild_epoch(random, clock), uid: edge_word(random, 1), board };
         let value = random.junk(sizes.value_words());
         let key = random.between(0, 4);
         sizes.set_header(&mut image, slot, header);

@@ -2,7 +2,7 @@
 
 use crate::calls::{image_words, refusal_of, simulate, transient_words, Call, WENT_ON};
 use crate::damage::{acceptable_image, any_clock, edge_word};
-use crate::image::Sizes;
+use crate::image::{Sizes, JOBS};
 use crate::random::Random;
 use crate::store::{Entry, Store};
 use crate::trace::{Event, Line, Trace};
@@ -188,20 +188,22 @@ fn key_call(random: &mut Random, store: &Store, entry: Option<Entry>, thread: u3
     }
 }
 
-/// A key of the board, most often that of a live job where one is wanted.
+/// A key of the board, most often that of a live job where one is wanted; or that of a slot which damage has put on
+/// another board, so that it looks like a job and is none.
 fn any_key(random: &mut Random, store: &Store, entry: Option<Entry>, keys: u32, wants_held: bool) -> u32 {
     if random.chance(2) {
         return edge_word(random, keys);
     }
-    match entry {
-        Some(entry) if wants_held && random.chance(80) => {
-            let held: Vec<usize> = entry.slots().filter(|&slot| entry.is_live(store, slot)).collect();
-            if held.is_empty() {
-                1
-            } else {
-                entry.sizes.key(&store.working, random.pick(&held))
-            }
-        }
-        _ => random.between(1, keys),
+    let Some(entry) = entry else { return random.between(1, keys) };
+    let live = entry.slots().filter(|&slot| entry.is_live(store, slot));
+    let (held, strays): (Vec<usize>, Vec<usize>) = live.partition(|&slot| entry.header(store, slot).board == JOBS);
+    if !strays.is_empty() && random.chance(50) {
+        entry.sizes.key(&store.working, random.pick(&strays))
+    } else if !wants_held || random.chance(20) {
+        random.between(1, keys)
+    } else if held.is_empty() {
+        1
+    } else {
+        entry.sizes.key(&store.working, random.pick(&held))
     }
 }

@@ -6,17 +6,28 @@ pub const ALLOC: u32 = 1;
 pub const UPDATE: u32 = 2;
 pub const DELETE: u32 = 3;
 
-/// The clock's place in an image, and the number of words before the headers.
+/// The board of jobs. 02, No. 2: "the board, 1 for jobs"
+pub const JOBS: u32 = 1;
+
+/// The clock's place in an image, the number of words before the headers, and that of a header.
 pub const CLOCK: usize = 2;
-const PREFIX: usize = 3;
-const HEADER_WORDS: usize = 3;
+pub const PREFIX: usize = 3;
+pub const HEADER_WORDS: usize = 4;
 
 /// The upper end of the clock and of the uids; the clock's lower end.
 pub const LARGEST: u32 = 4_000_000_000;
 pub const FIRST_CLOCK: u32 = 2;
 
-/// "for the largest image: 12,291 words"
-pub const LARGEST_IMAGE: usize = 12_291;
+/// 02, No. 2: "its lengths 13 and 12,291 become 15 and 13,315"
+pub const LARGEST_IMAGE: usize = 13_315;
+
+/// What an entry is called: its board and its key. 02, No. 2: "Keys are unique within a board"
+pub type Name = (u32, u32);
+
+/// The name that a job call looks for.
+pub fn job(key: u32) -> Name {
+    (JOBS, key)
+}
 
 /// N and W, both in range.
 #[derive(Clone, Copy, PartialEq, Eq, Debug)]
@@ -38,7 +49,7 @@ impl Sizes {
         (image.len() == sizes.image_words()).then_some(sizes)
     }
 
-    /// "The length is exactly 3 + 3N + WN words."
+    /// 02, No. 2: "an image has 3 + 4N + WN words"
     pub fn image_words(self) -> usize {
         PREFIX + HEADER_WORDS * self.slots + self.words * self.slots
     }
@@ -65,7 +76,7 @@ impl Sizes {
 
     pub fn header(self, image: &[u32], slot: usize) -> Header {
         let line = &image[self.header_line(slot)];
-        Header { kind: line[0], epoch: line[1], uid: line[2] }
+        Header { kind: line[0], epoch: line[1], uid: line[2], board: line[3] }
     }
 
     pub fn headers(self, image: &[u32]) -> Vec<Header> {
@@ -73,11 +84,16 @@ impl Sizes {
     }
 
     pub fn set_header(self, image: &mut [u32], slot: usize, header: Header) {
-        image[self.header_line(slot)].copy_from_slice(&[header.kind, header.epoch, header.uid]);
+        let line = [header.kind, header.epoch, header.uid, header.board];
+        image[self.header_line(slot)].copy_from_slice(&line);
     }
 
     pub fn key(self, image: &[u32], slot: usize) -> u32 {
         image[self.contents_line(slot).start]
+    }
+
+    pub fn name(self, image: &[u32], slot: usize) -> Name {
+        (self.header(image, slot).board, self.key(image, slot))
     }
 
     pub fn value(self, image: &[u32], slot: usize) -> Vec<u32> {
@@ -91,17 +107,18 @@ impl Sizes {
     }
 }
 
-/// A mark: kind, label, uid.
+/// A mark: kind, label, uid, board.
 #[derive(Clone, Copy, PartialEq, Eq, Debug)]
 pub struct Header {
     pub kind: u32,
     pub epoch: u32,
     pub uid: u32,
+    pub board: u32,
 }
 
 impl Header {
-    /// "A free mark is three zeros"
-    pub const FREE: Header = Header { kind: 0, epoch: 0, uid: 0 };
+    /// 02, No. 2: "A free mark is now four zeros"
+    pub const FREE: Header = Header { kind: 0, epoch: 0, uid: 0, board: 0 };
 
     pub fn is_filled(self) -> bool {
         (ALLOC..=DELETE).contains(&self.kind)
@@ -112,9 +129,12 @@ impl Header {
     }
 
     /// "A filled mark has a label from 2 to the clock and a uid from 1 to 4,000,000,000."
+    /// 02, No. 2: "condition 3 also covers a board other than 1"
     pub fn is_proper(self, clock: u32) -> bool {
-        let properly_filled =
-            self.is_filled() && (FIRST_CLOCK..=clock).contains(&self.epoch) && (1..=LARGEST).contains(&self.uid);
+        let properly_filled = self.is_filled()
+            && (FIRST_CLOCK..=clock).contains(&self.epoch)
+            && (1..=LARGEST).contains(&self.uid)
+            && self.board == JOBS;
         self == Header::FREE || properly_filled
     }
 

@@ -1,11 +1,12 @@
-//! The rules of the board once more, to be compared with the library. Comments quote the paper of rules, 01. Every call
-//! is total: any words, lengths and arguments give its answer.
+//! The rules of the board once more, to be compared with the library. Comments quote the paper of rules, 01, and where
+//! they say so the requests that change it, 02. Every call is total: any words, lengths and arguments give its answer.
 //!
 //! No code is shared with the library, but where 01 is silent its choices are followed, as each word is compared: the
 //! layout of the notes (`transient`), the phases of the place of an advance and where each step leaves it (`epochs`), and
 //! the readings of 01 in docs/DECISIONS.md. A choice that is wrong is wrong on both sides, and no comparison shows it.
 //! The plain board (`reference`) is from 01 alone, but for what it keeps of the operations that a sync made safe.
 
+pub mod boards;
 pub mod calls;
 pub mod changes;
 pub mod crash;

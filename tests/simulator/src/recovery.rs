@@ -1,6 +1,6 @@
 //! Recovery, and what it takes an image to mean.
 
-use crate::image::{clock_in_range, Header, Sizes, CLOCK, DELETE};
+use crate::image::{clock_in_range, Header, Name, Sizes, CLOCK, DELETE};
 use crate::store::{Refusal, Store};
 use crate::transient::Layout;
 use std::collections::BTreeMap;
@@ -11,8 +11,8 @@ pub enum Progress {
     Done,
 }
 
-/// Jobs by key.
-pub type Jobs = BTreeMap<u32, Vec<u32>>;
+/// Values by name. 02, No. 2: "The guarantee after a cut is read per board"
+pub type Jobs = BTreeMap<Name, Vec<u32>>;
 
 /// An image that recovery accepts.
 pub struct Accepted {
@@ -21,7 +21,7 @@ pub struct Accepted {
     pub survivors: Vec<usize>,
 }
 
-/// Refusals 1 to 4, judged on the image alone.
+/// Refusals 1 to 4, judged on the image alone. Versions are equal whatever their boards, names within one board.
 pub fn judge(image: &[u32]) -> Result<Accepted, Refusal> {
     let sizes = Sizes::of(image).ok_or(1u32)?;
     let clock = image[CLOCK];
@@ -33,13 +33,13 @@ pub fn judge(image: &[u32]) -> Result<Accepted, Refusal> {
         return Err(3);
     }
     let survivors: Vec<usize> = (0..sizes.slots).filter(|&slot| survives(&headers, clock, slot)).collect();
-    let keys: Vec<u32> = survivors.iter().map(|&slot| sizes.key(image, slot)).collect();
-    if keys.contains(&0) {
+    let names: Vec<Name> = survivors.iter().map(|&slot| sizes.name(image, slot)).collect();
+    if names.iter().any(|&(_, key)| key == 0) {
         return Err(3);
     }
     let kept = headers.iter().filter(|header| header.is_kept(clock));
     let versions = kept.map(|header| (header.uid, header.epoch)).collect();
-    if has_equals(versions) || has_equals(keys) {
+    if has_equals(versions) || has_equals(names) {
         return Err(4);
     }
     Ok(Accepted { sizes, clock, survivors })
@@ -96,6 +96,6 @@ fn next_uid(image: &[u32], accepted: &Accepted) -> u32 {
 /// The surviving jobs of an image: "the same keys, each once, the same value words".
 pub fn surviving_jobs(image: &[u32]) -> Result<Jobs, Refusal> {
     let accepted = judge(image)?;
-    let job = |&slot: &usize| (accepted.sizes.key(image, slot), accepted.sizes.value(image, slot));
+    let job = |&slot: &usize| (accepted.sizes.name(image, slot), accepted.sizes.value(image, slot));
     Ok(accepted.survivors.iter().map(job).collect())
 }

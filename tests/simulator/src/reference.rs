@@ -1,6 +1,6 @@
 //! The plain board of demand 3: it hears the calls and their replies, and says what a crash must leave.
 
-use crate::image::CLOCK;
+use crate::image::{Name, CLOCK};
 use crate::recovery::{surviving_jobs, Jobs};
 use crate::store::{Refusal, Store};
 
@@ -8,7 +8,7 @@ use crate::store::{Refusal, Store};
 #[derive(Clone)]
 struct Change {
     epoch: u32,
-    key: u32,
+    name: Name,
     value: Option<Vec<u32>>,
 }
 
@@ -44,9 +44,9 @@ impl Reference {
     }
 
     /// "An accepted new, set or delete adds its kind, key, value and operation to the row."
-    pub fn changed(&mut self, thread: u32, key: u32, value: Option<&[u32]>) {
+    pub fn changed(&mut self, thread: u32, name: Name, value: Option<&[u32]>) {
         let epoch = self.open[thread as usize];
-        self.row.push(Change { epoch, key, value: value.map(<[u32]>::to_vec) });
+        self.row.push(Change { epoch, name, value: value.map(<[u32]>::to_vec) });
     }
 
     pub fn ticked(&mut self) {
@@ -68,8 +68,8 @@ impl Reference {
         let mut jobs = self.start.clone();
         for change in self.row.iter().filter(|change| is_present(change.epoch, clock)) {
             match &change.value {
-                Some(value) => jobs.insert(change.key, value.clone()),
-                None => jobs.remove(&change.key),
+                Some(value) => jobs.insert(change.name, value.clone()),
+                None => jobs.remove(&change.name),
             };
         }
         jobs

@@ -1,12 +1,16 @@
 //! The stored images: named byte strings for the lister and the server's questions.
 
-use crate::image::{Header, Sizes, ALLOC, CLOCK, DELETE, LARGEST, UPDATE};
+use crate::image::{Header, Sizes, ALLOC, CLOCK, DELETE, JOBS, LARGEST, UPDATE};
 use crate::lister::bytes_of;
 
-/// The paper's example: "For words 2 2 7, 1 5 1, 2 6 1, 10 100, 10 200"
-pub const EXAMPLE: [u32; 13] = [2, 2, 7, 1, 5, 1, 2, 6, 1, 10, 100, 10, 200];
+/// The paper's example, "For words 2 2 7, 1 5 1, 2 6 1, 10 100, 10 200"; 02, No. 2: "01's worked marks gain a last 1"
+pub const EXAMPLE: [u32; 15] = [2, 2, 7, 1, 5, 1, 1, 2, 6, 1, 1, 10, 100, 10, 200];
 
-/// A slot to be filled: kind, label, uid, key; its value words count up from 1000 times the key.
+/// The same as it was before, with marks of three words.
+pub const OLD_EXAMPLE: [u32; 13] = [2, 2, 7, 1, 5, 1, 2, 6, 1, 10, 100, 10, 200];
+
+/// A slot to be filled: kind, label, uid, key; its value words count up from 1000 times the key. Its board is that of
+/// jobs, or 0 with kind 0.
 type Filled = (u32, u32, u32, u32);
 
 /// An image with these slots from 0 on, the others free with old words in their contents.
@@ -21,9 +25,18 @@ pub fn image_with(slots: u32, words: u32, clock: u32, filled: &[Filled]) -> Vec<
     }
     for (slot, &(kind, epoch, uid, key)) in filled.iter().enumerate() {
         let value: Vec<u32> = (0..words - 1).map(|word| key.wrapping_mul(1000).wrapping_add(word)).collect();
-        sizes.set_header(&mut image, slot, Header { kind, epoch, uid });
+        let board = if kind == 0 { 0 } else { JOBS };
+        sizes.set_header(&mut image, slot, Header { kind, epoch, uid, board });
         sizes.set_contents(&mut image, slot, key, &value);
     }
+    image
+}
+
+/// The image with a slot on this board.
+pub fn on_board(mut image: Vec<u32>, slot: usize, board: u32) -> Vec<u32> {
+    let sizes = Sizes::of(&image).expect("a stored image fits its sizes");
+    let header = sizes.header(&image, slot);
+    sizes.set_header(&mut image, slot, Header { board, ..header });
     image
 }
 
@@ -48,7 +61,7 @@ pub fn stored_images() -> Vec<(String, Vec<u8>)> {
 fn accepted() -> Vec<(&'static str, Vec<u32>)> {
     let deleted = [(ALLOC, 3, 2, 6), (DELETE, 5, 2, 6)];
     let versions = [(ALLOC, 2, 4, 12), (UPDATE, 6, 4, 12), deleted[0], deleted[1], (UPDATE, 4, 3, 9), (ALLOC, 8, 1, 7)];
-    let zero_value = [2, 3, 4, ALLOC, 2, LARGEST, 0, 0, 0, u32::MAX, 0, 0, 1, 2, 3];
+    let zero_value = [2, 3, 4, ALLOC, 2, LARGEST, JOBS, 0, 0, 0, 0, u32::MAX, 0, 0, 1, 2, 3];
     vec![
         ("example", EXAMPLE.to_vec()),
         ("empty-board", image_with(2, 2, 2, &[])),
@@ -72,24 +85,27 @@ fn refused_1() -> Vec<(&'static str, Vec<u8>)> {
         image[place] = word;
         bytes_of(&image)
     };
+    let (short_of_a_byte, short_of_a_word) = (example.len() - 1, example.len() - 4);
     vec![
         ("no-bytes", Vec::new()),
         ("one-byte", vec![2]),
         ("sizes-alone", example[..8].to_vec()),
-        ("one-byte-short", example[..51].to_vec()),
+        ("one-byte-short", example[..short_of_a_byte].to_vec()),
         ("one-byte-long", [&example[..], &[0]].concat()),
-        ("one-word-short", example[..48].to_vec()),
+        ("one-word-short", example[..short_of_a_word].to_vec()),
         ("one-word-long", [&example[..], &[0; 4]].concat()),
         ("one-byte-more-than-largest", [&largest[..], &[0]].concat()),
         ("one-word-more-than-largest", [&largest[..], &[0; 4]].concat()),
         ("largest-twice", [&largest[..], &largest[..]].concat()),
-        ("one-slot", bytes_of(&[1, 2, 7, 1, 5, 1, 10, 100])),
+        ("one-slot", bytes_of(&[1, 2, 7, 1, 5, 1, 1, 10, 100])),
         ("too-many-slots", with_size(0, 1025)),
         ("slots-do-not-fit", with_size(0, 3)),
         ("slots-wrap-around", with_size(0, 0x8000_0002)),
-        ("one-word-of-contents", bytes_of(&[2, 1, 7, 0, 0, 0, 0, 0, 0, 1, 1])),
-        ("ten-words-of-contents", bytes_of(&[[2, 10, 7].as_slice(), &[0; 26]].concat())),
+        ("one-word-of-contents", bytes_of(&[2, 1, 7, 0, 0, 0, 0, 0, 0, 0, 0, 1, 1])),
+        ("ten-words-of-contents", bytes_of(&[[2, 10, 7].as_slice(), &[0; 28]].concat())),
         ("highest-byte-first", EXAMPLE.iter().flat_map(|word| word.to_be_bytes()).collect()),
+        ("marks-of-three-words", bytes_of(&OLD_EXAMPLE)),
+        ("marks-of-three-words-no-job", bytes_of(&[[2, 2, 2].as_slice(), &[0; 10]].concat())),
     ]
 }
 
@@ -106,6 +122,7 @@ fn refused_2() -> Vec<(&'static str, Vec<u32>)> {
 fn refused_3() -> Vec<(&'static str, Vec<u32>)> {
     let equal = [(ALLOC, 5, 1, 3), (ALLOC, 5, 1, 3)];
     let mark = |header: Filled| image_with(4, 3, 9, &[equal[0], equal[1], header]);
+    let of_two = |first: Filled, second: Filled| image_with(3, 3, 9, &[first, second]);
     vec![
         ("kind-4", mark((4, 5, 2, 7))),
         ("free-with-label", mark((0, 5, 0, 7))),
@@ -115,8 +132,18 @@ fn refused_3() -> Vec<(&'static str, Vec<u32>)> {
         ("label-above-clock", mark((DELETE, 10, 2, 7))),
         ("uid-0", mark((ALLOC, 5, 0, 7))),
         ("uid-past-its-end", mark((DELETE, 5, LARGEST + 1, 7))),
-        ("survivor-with-key-0", image_with(3, 3, 9, &[(ALLOC, 5, 1, 3), (ALLOC, 7, 2, 0)])),
-        ("equal-survivors-with-key-0", image_with(3, 3, 9, &[(ALLOC, 5, 1, 3), (UPDATE, 5, 1, 0)])),
+        ("board-0", on_board(mark((ALLOC, 5, 2, 7)), 2, 0)),
+        ("board-2", on_board(mark((UPDATE, 5, 2, 7)), 2, 2)),
+        ("board-all-ones", on_board(mark((DELETE, 5, 2, 7)), 2, u32::MAX)),
+        ("free-with-board", on_board(mark((0, 0, 0, 7)), 2, JOBS)),
+        ("board-2-and-nothing-else", on_board(of_two((ALLOC, 5, 1, 3), (ALLOC, 5, 2, 7)), 1, 2)),
+        ("board-2-not-kept", on_board(of_two((ALLOC, 5, 1, 3), (ALLOC, 9, 2, 7)), 1, 2)),
+        ("free-with-board-and-nothing-else", on_board(of_two((ALLOC, 5, 1, 3), (0, 0, 0, 7)), 1, JOBS)),
+        ("equal-keys-on-two-boards", on_board(of_two((ALLOC, 5, 1, 3), (UPDATE, 6, 2, 3)), 1, 2)),
+        ("equal-uids-on-two-boards", on_board(of_two((ALLOC, 5, 1, 3), (UPDATE, 6, 1, 3)), 1, 2)),
+        ("equal-uid-and-label-on-two-boards", on_board(of_two((ALLOC, 5, 1, 3), (UPDATE, 5, 1, 4)), 1, 2)),
+        ("survivor-with-key-0", of_two((ALLOC, 5, 1, 3), (ALLOC, 7, 2, 0))),
+        ("equal-survivors-with-key-0", of_two((ALLOC, 5, 1, 3), (UPDATE, 5, 1, 0))),
     ]
 }
 

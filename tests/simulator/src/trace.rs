@@ -2,6 +2,7 @@
 
 use crate::calls::{refusal_of, simulate, Call, TICKED};
 use crate::crash::{check_crash, Engine};
+use crate::image::job;
 use crate::random::Random;
 use crate::reference::Reference;
 use crate::store::Store;
@@ -136,9 +137,9 @@ impl Replay<'_, '_> {
             Call::Begin { thread } => self.reference.began(*thread),
             Call::End { thread } => self.reference.ended(*thread),
             Call::New { thread, key, value } | Call::Set { thread, key, value } => {
-                self.reference.changed(*thread, *key, Some(value))
+                self.reference.changed(*thread, job(*key), Some(value))
             }
-            Call::Delete { thread, key } => self.reference.changed(*thread, *key, None),
+            Call::Delete { thread, key } => self.reference.changed(*thread, job(*key), None),
             Call::Advance => return self.advanced(reply),
             Call::WriteBack { .. } => return self.crash(),
             Call::Sync | Call::Read { .. } | Call::ReadRefusal { .. } | Call::Format { .. } | Call::Recover => {}

@@ -1,5 +1,6 @@
 //! The simulator against the reference map and against arbitrary words.
 
+use simulator::boards::ToldApart;
 use simulator::calls::{refusal_of, simulate, Call};
 use simulator::damage::{damaged_store, wild_store};
 use simulator::generator::{any_call, start, trace, unformatted, Mix};
@@ -29,6 +30,7 @@ fn every_crash_leaves_the_reference_map() {
 #[test]
 fn every_call_is_total_and_a_refusal_changes_nothing() {
     let mut random = Random::new(7);
+    let mut told_apart = ToldApart::default();
     for round in 0..20_000 {
         let slots = random.between(2, 6);
         let mut store = match random.below(3) {
@@ -48,6 +50,9 @@ fn every_call_is_total_and_a_refusal_changes_nothing() {
             let before = store.clone();
             let reply = simulate(&mut store, &call);
             assert!(refusal_of(&call, reply) == 0 || store == before, "round {round}: {call:?} on {before:?}");
+            told_apart.note(&before, &call, reply);
         }
     }
+    println!("seed 7, 200000 calls, {told_apart:?}");
+    assert!(told_apart.are_at_least(100), "too few slots that only their board tells from a job: {told_apart:?}");
 }

@@ -2,9 +2,9 @@
 
 mod common;
 
-use common::{delete, fresh, make, new, tick, BEGIN, END};
+use common::{delete, fresh, make, mark, new, tick, BEGIN, END};
 use simulator::calls::{simulate, Call, DONE, WENT_ON};
-use simulator::image::{ALLOC, DELETE, UPDATE};
+use simulator::image::{ALLOC, DELETE, JOBS, UPDATE};
 use simulator::recovery::{judge, surviving_jobs, Jobs};
 use simulator::store::Store;
 use simulator::stored::image_with;
@@ -23,7 +23,8 @@ fn a_delete_outlasts_the_record_it_covers() {
     tick(&mut store);
     tick(&mut store);
     make(&mut store, &[BEGIN, delete(0, 3), END]);
-    assert_eq!((store.working[3], store.working[9]), (DELETE, ALLOC), "the DELETE stands before its record");
+    let kinds = [0, 2].map(|slot| mark(&store.working, slot)[0]);
+    assert_eq!(kinds, [DELETE, ALLOC], "the DELETE stands before its record");
     tick(&mut store);
     tick(&mut store);
     while store.persistent[2] < 9 {
@@ -39,7 +40,7 @@ fn a_stray_copy_of_a_slot_freed_at_once_does_not_return() {
     make(&mut store, &[BEGIN, new(0, 1)]);
     make(&mut store, &stray);
     make(&mut store, &[delete(0, 1), END]);
-    assert_eq!(store.persistent[3], ALLOC);
+    assert_eq!(mark(&store.persistent, 0), [ALLOC, 2, 1, JOBS]);
     assert_eq!(simulate(&mut store, &Call::Sync), 4);
     assert!(jobs_after_crash(&store).is_empty());
 }
@@ -70,8 +71,8 @@ fn recovery_frees_a_kept_delete_after_its_payload() {
     let image = image_with(2, 2, 9, &[(DELETE, 6, 1, 3), (ALLOC, 5, 1, 3)]);
     let mut store = Store { working: image.clone(), persistent: image, transient: vec![0; 12] };
     assert_eq!(simulate(&mut store, &Call::Recover), WENT_ON);
-    assert_eq!(&store.persistent[3..9], [DELETE, 6, 1, 0, 0, 0]);
+    assert_eq!([0, 1].map(|slot| mark(&store.persistent, slot)), [[DELETE, 6, 1, JOBS], [0; 4]]);
     assert_eq!(simulate(&mut store, &Call::Recover), WENT_ON);
-    assert_eq!(&store.persistent[3..9], [0; 6]);
+    assert_eq!([0, 1].map(|slot| mark(&store.persistent, slot)), [[0; 4]; 2]);
     assert_eq!(simulate(&mut store, &Call::Recover), DONE);
 }

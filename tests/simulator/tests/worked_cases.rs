@@ -1,25 +1,25 @@
-//! The cases under "Contracts and cases" and the lister's example.
+//! The cases under "Contracts and cases", the lister's example, and what the board word changes (02, No. 2).
 
 mod common;
 
-use common::{delete, fresh, make, new, tick, BEGIN, END};
+use common::{delete, fresh, make, mark, new, tick, BEGIN, END};
 use simulator::calls::{image_words, refusal_of, refused, simulate, transient_words, Call, DONE, WENT_ON};
 use simulator::headcount::{figures, head_count};
-use simulator::image::{Header, ALLOC, DELETE, UPDATE};
+use simulator::image::{Header, ALLOC, DELETE, HEADER_WORDS, JOBS, PREFIX, UPDATE};
 use simulator::lister::{bytes_of, clock_answer, listing, survivors_answer};
 use simulator::recovery::judge;
 use simulator::store::Store;
-use simulator::stored::{image_with, stored_images, EXAMPLE};
+use simulator::stored::{image_with, on_board, stored_images, EXAMPLE, OLD_EXAMPLE};
 
 #[test]
 fn a_slot_is_kept_from_label_plus_two_on() {
-    let kept = |epoch, clock| Header { kind: ALLOC, epoch, uid: 1 }.is_kept(clock);
+    let kept = |epoch, clock| Header { kind: ALLOC, epoch, uid: 1, board: JOBS }.is_kept(clock);
     assert!(kept(5, 7) && !kept(6, 7) && !kept(2, 3) && kept(2, 4));
 }
 
 #[test]
 fn lengths_are_exact() {
-    assert_eq!([image_words(2, 2), image_words(1024, 9)], [13, 12_291]);
+    assert_eq!([image_words(2, 2), image_words(1024, 9)], [15, 13_315]);
     assert_eq!([image_words(1, 2), image_words(1025, 2), image_words(2, 1), image_words(2, 10)], [0; 4]);
     assert_eq!([transient_words(2, 1), transient_words(1024, 16)], [12, 3093]);
     assert_eq!([transient_words(2, 0), transient_words(2, 17), transient_words(1, 1)], [0; 3]);
@@ -34,11 +34,16 @@ fn a_payload_retired_in_4_is_freed_by_the_advance_from_6_and_its_delete_by_that_
     make(&mut store, &[BEGIN, delete(0, 9), END]);
     tick(&mut store);
     tick(&mut store);
-    assert_eq!((store.persistent[2], &store.persistent[3..9]), (6, &[1, 2, 1, 3, 4, 1][..]));
+    let (payload, anti, free) = ([ALLOC, 2, 1, JOBS], [DELETE, 4, 1, JOBS], [0; 4]);
+    let finds = |store: &Store, clock, marks: [[u32; HEADER_WORDS]; 2]| {
+        let found = [0, 1].map(|slot| mark(&store.persistent, slot));
+        assert_eq!((store.persistent[2], found[0], found[1]), (clock, &marks[0][..], &marks[1][..]));
+    };
+    finds(&store, 6, [payload, anti]);
     tick(&mut store);
-    assert_eq!((store.persistent[2], &store.persistent[3..9]), (7, &[0, 0, 0, 3, 4, 1][..]));
+    finds(&store, 7, [free, anti]);
     tick(&mut store);
-    assert_eq!((store.persistent[2], &store.persistent[3..9]), (8, &[0, 0, 0, 0, 0, 0][..]));
+    finds(&store, 8, [free, free]);
 }
 
 #[test]
@@ -51,7 +56,7 @@ fn an_alloc_survives_until_its_delete_is_kept() {
 #[test]
 fn sizes_out_of_range_decline_with_1() {
     for (slots, words, threads) in [(1, 2, 1), (1025, 2, 1), (2, 1, 1), (2, 10, 1), (2, 2, 0), (2, 2, 17)] {
-        let image = (3 + 3 * slots + words * slots) as usize;
+        let image = PREFIX + (HEADER_WORDS + words as usize) * slots as usize;
         let notes = (5 + threads + 3 * slots) as usize;
         let mut store = Store { working: vec![0; image], persistent: vec![0; image], transient: vec![0; notes] };
         for head in [&mut store.working, &mut store.persistent] {
@@ -83,11 +88,20 @@ fn notes_of_other_sizes_decline_with_1() {
 fn declines_the_notes(store: &Store, other: &Store) {
     let before = Store { transient: other.transient.clone(), ..store.clone() };
     assert_eq!((store.transient.len(), before.transient.len()), (18, 18));
+    declines_with_1(&before);
+    let [mut formatted, mut recovered] = [before.clone(), before];
+    make(&mut formatted, &[Call::Format { slots: store.working[0], words: 2 }, BEGIN]);
+    assert_eq!(simulate(&mut recovered, &Call::Recover), DONE);
+    make(&mut recovered, &[BEGIN]);
+}
+
+/// Every call but format and recover.
+fn declines_with_1(before: &Store) {
     let calls = [
         BEGIN,
         END,
         new(0, 8),
-        Call::Set { thread: 0, key: 9, value: vec![1] },
+        set(0, 9),
         delete(0, 9),
         Call::Read { thread: 0, key: 9 },
         Call::ReadRefusal { thread: 0, key: 9 },
@@ -98,12 +112,8 @@ fn declines_the_notes(store: &Store, other: &Store) {
     for call in calls {
         let mut after = before.clone();
         let reply = simulate(&mut after, &call);
-        assert_eq!((refusal_of(&call, reply), &after), (1, &before), "{call:?}");
+        assert_eq!((refusal_of(&call, reply), &after), (1, before), "{call:?}");
     }
-    let [mut formatted, mut recovered] = [before.clone(), before];
-    make(&mut formatted, &[Call::Format { slots: store.working[0], words: 2 }, BEGIN]);
-    assert_eq!(simulate(&mut recovered, &Call::Recover), DONE);
-    make(&mut recovered, &[BEGIN]);
 }
 
 #[test]
@@ -111,7 +121,7 @@ fn a_sync_after_one_fresh_job_stores_4_lines() {
     let mut store = fresh(2, 1);
     make(&mut store, &[BEGIN, new(0, 9), END]);
     assert_eq!(simulate(&mut store, &Call::Sync), 4);
-    assert_eq!(store.persistent, [2, 2, 4, 1, 2, 1, 0, 0, 0, 9, 9, 0, 0]);
+    assert_eq!(store.persistent, [2, 2, 4, 1, 2, 1, 1, 0, 0, 0, 0, 9, 9, 0, 0]);
 }
 
 #[test]
@@ -130,7 +140,7 @@ fn a_board_of_2_with_one_job_is_full_and_can_be_emptied() {
 #[test]
 fn recovery_sets_the_next_uid_and_begins_at_slot_0() {
     let image = image_with(3, 2, 9, &[(ALLOC, 5, 6, 3), (UPDATE, 8, 7, 4)]);
-    let mut store = Store { working: vec![1; 18], persistent: image, transient: vec![1; 15] };
+    let mut store = Store { working: vec![1; image.len()], persistent: image, transient: vec![1; 15] };
     assert_eq!(simulate(&mut store, &Call::Recover), WENT_ON);
     assert_eq!((store.working[0], &store.transient[..]), (1, &[1; 15][..]));
     assert_eq!(simulate(&mut store, &Call::Recover), DONE);
@@ -143,7 +153,7 @@ fn the_lister_prints_the_example() {
     let bytes = bytes_of(&EXAMPLE);
     assert_eq!(listing(&bytes), "clock 7 survivors 1\n0 10 100\n");
     assert_eq!((clock_answer(&bytes), survivors_answer(&bytes)), (7, 1));
-    assert_eq!(listing(&bytes[..51]), "refused 1\n");
+    assert_eq!(listing(&bytes[..59]), "refused 1\n");
     assert_eq!(clock_answer(&[]), 4_294_967_297);
 }
 
@@ -155,26 +165,144 @@ fn each_stored_image_is_refused_as_its_name_says() {
         .collect();
     let count = |line: &str| first_words.iter().filter(|(_, first)| first == line).count();
     let counts = ["refused 1", "refused 2", "refused 3", "refused 4"].map(count);
-    assert_eq!((counts, first_words.len()), ([17, 4, 10, 5], 47), "{first_words:#?}");
+    assert_eq!((counts, first_words.len()), ([19, 4, 20, 5], 59), "{first_words:#?}");
 }
 
 #[test]
 fn the_head_count_of_the_worked_image() {
     let bytes = bytes_of(&EXAMPLE);
     assert_eq!(head_count(&bytes), "free 0 surviving 1 kept 0 new 1 total 2\n");
-    assert_eq!(head_count(&bytes[..51]), "refused 1\n");
+    assert_eq!(head_count(&bytes[..59]), "refused 1\n");
 }
 
 #[test]
 fn losing_versions_and_kept_deletes_are_kept() {
-    let filled = [(ALLOC, 5, 1, 3), (UPDATE, 6, 1, 3), (ALLOC, 4, 2, 4), (DELETE, 7, 2, 4), (ALLOC, 8, 3, 5), (UPDATE, 9, 1, 3)];
+    let filled =
+        [(ALLOC, 5, 1, 3), (UPDATE, 6, 1, 3), (ALLOC, 4, 2, 4), (DELETE, 7, 2, 4), (ALLOC, 8, 3, 5), (UPDATE, 9, 1, 3)];
     let counted = head_count(&bytes_of(&image_with(8, 2, 9, &filled)));
     assert_eq!(counted, "free 2 surviving 1 kept 3 new 2 total 8\n");
 }
 
 #[test]
 fn a_figure_is_no_rest_of_the_others() {
-    let torn = Header { kind: 0, epoch: 5, uid: 0 };
-    let too_high = Header { kind: 4, epoch: 5, uid: 1 };
-    assert_eq!(figures(&[torn, too_high, Header::FREE], 9, &[]), [1, 0, 0, 0]);
+    let torn = Header { kind: 0, epoch: 5, uid: 0, board: 0 };
+    let too_high = Header { kind: 4, epoch: 5, uid: 1, board: JOBS };
+    let board_alone = Header { board: JOBS, ..Header::FREE };
+    assert_eq!(figures(&[torn, too_high, board_alone, Header::FREE], 9, &[]), [1, 0, 0, 0]);
+}
+
+/// Moves a slot of working to another board, which only damage does.
+fn stray(store: &mut Store, slot: usize, board: u32) {
+    store.working = on_board(store.working.clone(), slot, board);
+}
+
+const OTHER_BOARDS: [u32; 3] = [0, 2, u32::MAX];
+
+fn set(thread: u32, key: u32) -> Call {
+    Call::Set { thread, key, value: vec![key + 1] }
+}
+
+/// What read, its refusal, set and delete reply for this key, as refusals.
+fn refusals_of_a_look(store: &Store, thread: u32, key: u32) -> [u32; 4] {
+    let calls = [Call::Read { thread, key }, Call::ReadRefusal { thread, key }, set(thread, key), delete(thread, key)];
+    calls.map(|call| refusal_of(&call, simulate(&mut store.clone(), &call)))
+}
+
+#[test]
+fn every_mark_that_a_job_call_leaves_has_its_board() {
+    let mut store = fresh(8, 1);
+    make(&mut store, &[BEGIN, new(0, 5), new(0, 6), new(0, 7), delete(0, 7), END]);
+    assert_eq!(mark(&store.working, 1), [ALLOC, 2, 2, JOBS]);
+    assert_eq!(mark(&store.working, 2), [0; 4], "freed at once");
+    tick(&mut store);
+    make(&mut store, &[BEGIN, set(0, 5), delete(0, 6), END]);
+    assert_eq!(mark(&store.working, 3), [UPDATE, 3, 1, JOBS], "a new version");
+    assert_eq!(mark(&store.working, 4), [DELETE, 3, 2, JOBS], "covers its payload");
+    make(&mut store, &[BEGIN, delete(0, 5), END]);
+    assert_eq!(mark(&store.working, 3), [DELETE, 3, 1, JOBS], "turned in its own slot");
+}
+
+#[test]
+fn a_key_on_another_board_is_no_job() {
+    for board in OTHER_BOARDS {
+        let mut store = fresh(4, 2);
+        make(&mut store, &[BEGIN, new(0, 9)]);
+        assert_eq!(simulate(&mut store.clone(), &new(0, 9)), 11);
+        stray(&mut store, 0, board);
+        assert_eq!(refusals_of_a_look(&store, 0, 9), [10; 4], "board {board}");
+        assert_eq!(refusals_of_a_look(&store, 1, 9), [10, 10, 7, 7], "board {board}, no operation open");
+        make(&mut store, &[new(0, 9)]);
+        let marks = [0, 1].map(|slot| mark(&store.working, slot));
+        assert_eq!(marks, [[ALLOC, 2, 1, board], [ALLOC, 2, 2, JOBS]]);
+        assert_eq!(refusals_of_a_look(&store, 0, 9), [0; 4], "the job beside it");
+    }
+}
+
+#[test]
+fn a_newer_label_on_another_board_does_not_hold_a_job_up() {
+    for board in OTHER_BOARDS {
+        let mut store = fresh(4, 2);
+        make(&mut store, &[BEGIN]);
+        tick(&mut store);
+        make(&mut store, &[Call::Begin { thread: 1 }, new(1, 9)]);
+        assert_eq!(refusals_of_a_look(&store, 0, 9), [9; 4]);
+        assert_eq!(simulate(&mut store.clone(), &new(0, 9)), 9);
+        stray(&mut store, 0, board);
+        assert_eq!(refusals_of_a_look(&store, 0, 9), [10; 4], "board {board}");
+        make(&mut store, &[new(0, 9)]);
+        assert_eq!(mark(&store.working, 1), [ALLOC, 2, 2, JOBS]);
+    }
+}
+
+#[test]
+fn a_slot_on_another_board_is_taken_up_written_back_and_reclaimed() {
+    for board in OTHER_BOARDS {
+        let mut store = fresh(3, 1);
+        make(&mut store, &[BEGIN, new(0, 8), new(0, 9)]);
+        stray(&mut store, 0, board);
+        assert_eq!(simulate(&mut store, &new(0, 8)), 13, "board {board}");
+        make(&mut store, &[END, Call::WriteBack { slot: 0, line: 1 }]);
+        assert_eq!(mark(&store.persistent, 0), [ALLOC, 2, 1, board], "all four words are written back");
+        tick(&mut store);
+        make(&mut store, &[BEGIN, delete(0, 9), END]);
+        assert_eq!(mark(&store.working, 2), [DELETE, 3, 2, JOBS]);
+        stray(&mut store, 1, board);
+        stray(&mut store, 2, board);
+        for _ in 0..4 {
+            tick(&mut store);
+        }
+        for image in [&store.working, &store.persistent] {
+            let marks = [0, 1, 2].map(|slot| mark(image, slot));
+            assert_eq!((image[2], marks), (7, [&[ALLOC, 2, 1, board][..], &[0; 4], &[0; 4]]), "board {board}");
+        }
+    }
+}
+
+/// An image says its N and W, so one of the old layout never has the length that these want.
+#[test]
+fn an_image_of_three_word_marks_declines_with_1() {
+    let old = OLD_EXAMPLE.to_vec();
+    let notes = fresh(2, 1).transient;
+    let before = Store { working: old.clone(), persistent: old, transient: notes };
+    declines_with_1(&before);
+    for call in [Call::Recover, Call::Format { slots: 2, words: 2 }] {
+        let mut after = before.clone();
+        let reply = simulate(&mut after, &call);
+        assert_eq!((refusal_of(&call, reply), &after), (1, &before), "{call:?}");
+    }
+    let bytes = bytes_of(&before.persistent);
+    assert_eq!([clock_answer(&bytes), survivors_answer(&bytes)], [refused(1); 2]);
+    assert_eq!([listing(&bytes), head_count(&bytes)], ["refused 1\n"; 2]);
+}
+
+#[test]
+fn recovery_declines_another_board_with_3_where_all_else_is_in_order() {
+    let jobs = image_with(3, 2, 9, &[(ALLOC, 5, 1, 3), (DELETE, 8, 2, 4)]);
+    assert_eq!(judge(&jobs).unwrap().survivors, [0]);
+    let refusal = |slot, board| judge(&on_board(jobs.clone(), slot, board)).err();
+    assert_eq!(
+        [0, 1, 2].map(|slot| [0, 2, u32::MAX].map(|board| refusal(slot, board))),
+        [[Some(3); 3], [Some(3); 3], [None, Some(3), Some(3)],]
+    );
+    assert_eq!([0, 1, 2].map(|slot| refusal(slot, JOBS)), [None, None, Some(3)]);
 }

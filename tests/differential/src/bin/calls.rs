@@ -1,9 +1,10 @@
-//! Every call and the lengths, on honest, damaged and wild stores.
+//! Every call and the lengths, on honest, damaged and wild stores; some of the damaged have slots on other boards.
 //! Usage: calls SEED COUNT
 
 use differential::library::{any, compare, lengths};
 use differential::numbers;
 use differential::smallest::Smallest;
+use simulator::boards::ToldApart;
 use simulator::calls::{image_words, refusal_of, transient_words, Call};
 use simulator::damage::{any_image, damage_length, damaged_store, edge_word, wild_store};
 use simulator::generator::{any_call, start, unformatted, Mix};
@@ -19,13 +20,15 @@ struct Test {
     calls: u64,
     accepted: u64,
     refusals: [u64; 17],
+    told_apart: ToldApart,
     smallest: Smallest,
 }
 
 fn main() {
     let [seed, count] = numbers("calls SEED COUNT");
     let random = Random::new(seed);
-    let mut test = Test { random, calls: 0, accepted: 0, refusals: [0; 17], smallest: Smallest::default() };
+    let (told_apart, smallest) = (ToldApart::default(), Smallest::default());
+    let mut test = Test { random, calls: 0, accepted: 0, refusals: [0; 17], told_apart, smallest };
     while test.calls < count {
         let most = test.random.pick(&MOST_SLOTS);
         let slots = test.random.between(2, most);
@@ -36,29 +39,44 @@ fn main() {
         let wild = wild_store(&mut test.random, slots);
         test.changes(wild, 12);
     }
-    let Test { calls, accepted, refusals, smallest, .. } = test;
+    let Test { calls, accepted, refusals, told_apart, smallest, .. } = test;
     smallest.report(seed);
-    println!("{calls} calls, no difference, {accepted} accepted, refusals by number {refusals:?}, seed {seed}");
+    let ToldApart { no_9, no_11, found_none } = told_apart;
+    println!(
+        "{calls} calls, no difference, {accepted} accepted, refusals by number {refusals:?}, slots told from jobs by \
+         their board: no 9 {no_9}, no 11 {no_11}, none found {found_none}, seed {seed}"
+    );
     assert!(refusals[1..].iter().all(|&seen| seen >= 100), "too few of some refusal");
+    assert!(told_apart.are_at_least(100), "too few slots that only their board tells from a job");
 }
 
 impl Test {
-    /// One call on both sides. The store goes on as the simulator leaves it.
-    fn make(&mut self, store: &mut Store, call: &Call) {
+    /// One call on both sides, and the reply where they agree. The store goes on as the simulator leaves it.
+    fn make(&mut self, store: &mut Store, call: &Call) -> Option<u64> {
         self.calls += 1;
         match compare(store, call, any) {
-            Ok(reply) => match refusal_of(call, reply) {
-                0 => self.accepted += 1,
-                refusal => self.refusals[refusal as usize] += 1,
-            },
-            Err(what) => self.smallest.note(store.working.len() + store.transient.len(), what),
+            Ok(reply) => {
+                match refusal_of(call, reply) {
+                    0 => self.accepted += 1,
+                    refusal => self.refusals[refusal as usize] += 1,
+                }
+                Some(reply)
+            }
+            Err(what) => {
+                self.smallest.note(store.working.len() + store.transient.len(), what);
+                None
+            }
         }
     }
 
+    /// Calls on a damaged or wild store.
     fn changes(&mut self, mut store: Store, count: usize) {
         for _ in 0..count {
             let call = any_call(&mut self.random, &store, Mix { advances: 30, keys: 4 });
-            self.make(&mut store, &call);
+            let before = store.clone();
+            if let Some(reply) = self.make(&mut store, &call) {
+                self.told_apart.note(&before, &call, reply);
+            }
         }
     }
 

@@ -1,14 +1,31 @@
-//! The cases that 01 works out, on the library. Usage: worked
+//! The cases that 01 works out, and what the board word changes (02, No. 2), on the library. Usage: worked
 
-use differential::library::{any, compare, lengths};
+use differential::library::{answers, any, compare, lengths};
 use simulator::calls::{refused, Call, DONE, TICKED, WENT_ON};
+use simulator::image::{ALLOC, DELETE, HEADER_WORDS, JOBS, PREFIX, UPDATE};
+use simulator::lister::bytes_of;
 use simulator::store::Store;
 
 const BEGIN: Call = Call::Begin { thread: 0 };
 const END: Call = Call::End { thread: 0 };
 
+/// The board's place in a mark.
+const BOARD: usize = 3;
+
 fn main() {
-    let cases = [sizes_out_of_range, notes_of_other_sizes, a_board_of_two, lines_of_a_sync, lines_of_a_quiet_sync];
+    let cases = [
+        sizes_out_of_range,
+        notes_of_other_sizes,
+        marks_of_three_words,
+        a_board_of_two,
+        lines_of_a_sync,
+        lines_of_a_quiet_sync,
+        marks_that_job_calls_leave,
+        a_key_on_another_board,
+        a_newer_label_on_another_board,
+        a_slot_on_another_board,
+        recoveries_of_other_boards,
+    ];
     let calls: usize = cases.iter().map(|case| case()).sum();
     println!("{} cases, {calls} calls", cases.len());
 }
@@ -61,7 +78,7 @@ fn each_declines_with_1(store: &mut Store, value: &[u32]) -> usize {
         (set(9, value), 1),
         (delete(9), 1),
         (read(9), refused(1)),
-        (Call::ReadRefusal { thread: 0, key: 9 }, 1),
+        (read_refusal(9), 1),
         (Call::Advance, refused(1)),
         (Call::Sync, refused(1)),
         (Call::WriteBack { slot: 0, line: 0 }, 1),
@@ -71,6 +88,19 @@ fn each_declines_with_1(store: &mut Store, value: &[u32]) -> usize {
     made
 }
 
+/// Images of N 4, W 2 with marks of three words, as the old format left them, and notes of that N: no call takes them.
+fn marks_of_three_words() -> usize {
+    let old_header_words = 3;
+    let mut store = sized(4, 2, 1);
+    for image in [&mut store.working, &mut store.persistent] {
+        image.truncate(PREFIX + (old_header_words + 2) * 4);
+    }
+    let bytes = bytes_of(&store.persistent);
+    assert_eq!(answers(&bytes), [refused(1); 2], "the questions");
+    make(&mut store, &[(Call::Format { slots: 4, words: 2 }, 1), (Call::Recover, refused(1))])
+        + each_declines_with_1(&mut store, &[6])
+}
+
 /// "N 2, one job: a second new gives 13; deleting the first in a later epoch succeeds."
 fn a_board_of_two() -> usize {
     let mut store = sized(2, 2, 1);
@@ -78,18 +108,12 @@ fn a_board_of_two() -> usize {
         (Call::Format { slots: 2, words: 2 }, 0),
         (BEGIN, 0),
         (new(9, &[5]), 0),
-        (read(9), 10),
+        (read(9), value_place(2, 2, 0)),
         (new(8, &[6]), 13),
         (END, 0),
     ];
-    let in_epoch_3 = [
-        (BEGIN, 0),
-        (set(9, &[7]), 13),
-        (delete(9), 0),
-        (read(9), refused(10)),
-        (Call::ReadRefusal { thread: 0, key: 9 }, 10),
-        (END, 0),
-    ];
+    let in_epoch_3 =
+        [(BEGIN, 0), (set(9, &[7]), 13), (delete(9), 0), (read(9), refused(10)), (read_refusal(9), 10), (END, 0)];
     let tick = [(Call::Advance, TICKED)];
     make(&mut store, &in_epoch_2) + make(&mut store, &tick) + make(&mut store, &in_epoch_3)
 }
@@ -104,13 +128,131 @@ fn lines_of_a_sync() -> usize {
     let steps = [(Call::Advance, TICKED), (Call::Advance, WENT_ON), (Call::Advance, WENT_ON), (Call::Advance, TICKED)];
     let calls = calls + make(&mut store, &[(Call::Sync, 4)]) + make(&mut by_steps, &steps);
     assert_eq!(store, by_steps, "a sync and its advance calls");
-    calls + make(&mut store, &[(Call::Recover, 1), (read(9), 3 + 3 * 8 + 1)])
+    calls + make(&mut store, &[(Call::Recover, 1), (read(9), value_place(8, 3, 0))])
 }
 
 /// Where nothing changed, a sync stores the clock twice.
 fn lines_of_a_quiet_sync() -> usize {
     let mut store = sized(8, 3, 2);
     make(&mut store, &[(Call::Format { slots: 8, words: 3 }, 0), (Call::Sync, 2), (Call::Sync, 2)])
+}
+
+const OTHER_BOARDS: [u32; 3] = [0, 2, u32::MAX];
+
+/// "A new version and a DELETE carry their payload's board", and "A free mark is now four zeros".
+fn marks_that_job_calls_leave() -> usize {
+    let mut store = sized(8, 2, 1);
+    let format = (Call::Format { slots: 8, words: 2 }, 0);
+    let in_epoch_2 = [format, (BEGIN, 0), (new(5, &[1]), 0), (new(6, &[1]), 0), (new(7, &[1]), 0), (delete(7), 0)];
+    let in_epoch_3 = [(END, 0), (Call::Advance, TICKED), (BEGIN, 0), (set(5, &[2]), 0), (delete(6), 0)];
+    let mut calls = make(&mut store, &in_epoch_2);
+    assert_eq!([1, 2].map(|slot| mark(&store.working, slot)), [[ALLOC, 2, 2, JOBS], [0; 4]]);
+    calls += make(&mut store, &in_epoch_3);
+    assert_eq!([3, 4].map(|slot| mark(&store.working, slot)), [[UPDATE, 3, 1, JOBS], [DELETE, 3, 2, JOBS]]);
+    calls += make(&mut store, &[(delete(5), 0), (END, 0)]);
+    assert_eq!(mark(&store.working, 3), [DELETE, 3, 1, JOBS]);
+    calls
+}
+
+/// A live slot that damage has put on another board is no job: read, set and delete give 10, and new is accepted.
+/// Thread 1 has no operation open.
+fn a_key_on_another_board() -> usize {
+    let idle_read = Call::Read { thread: 1, key: 9 };
+    let mut calls = 0;
+    for board in OTHER_BOARDS {
+        let mut store = sized(4, 2, 2);
+        let job = [(Call::Format { slots: 4, words: 2 }, 0), (BEGIN, 0), (new(9, &[5]), 0), (new(9, &[5]), 11)];
+        calls += make(&mut store, &job) + make(&mut store, &[(idle_read.clone(), value_place(4, 2, 0))]);
+        stray(&mut store, 0, board);
+        let no_job = [(read(9), refused(10)), (read_refusal(9), 10), (set(9, &[6]), 10), (delete(9), 10)];
+        calls += make(&mut store, &no_job) + make(&mut store, &[(idle_read.clone(), refused(10)), (new(9, &[7]), 0)]);
+        assert_eq!([0, 1].map(|slot| mark(&store.working, slot)), [[ALLOC, 2, 1, board], [ALLOC, 2, 2, JOBS]]);
+        let beside_it = [read(9), idle_read.clone()].map(|read| (read, value_place(4, 2, 1)));
+        calls +=
+            make(&mut store, &beside_it) + make(&mut store, &[(new(9, &[8]), 11), (set(9, &[8]), 0), (delete(9), 0)]);
+    }
+    calls
+}
+
+/// A label above the caller's epoch on another board is no 9: "the newer-label check" looks "within one board".
+fn a_newer_label_on_another_board() -> usize {
+    let mut calls = 0;
+    for board in OTHER_BOARDS {
+        let mut store = sized(4, 2, 2);
+        let newer = Call::New { thread: 1, key: 9, value: vec![5] };
+        let made = [(Call::Format { slots: 4, words: 2 }, 0), (BEGIN, 0), (Call::Advance, TICKED)];
+        calls += make(&mut store, &made) + make(&mut store, &[(Call::Begin { thread: 1 }, 0), (newer, 0)]);
+        let each = |reply: u64| {
+            [(read(9), refused(reply as u32)), (read_refusal(9), reply), (set(9, &[6]), reply), (delete(9), reply)]
+        };
+        calls += make(&mut store, &each(9)) + make(&mut store, &[(new(9, &[6]), 9)]);
+        stray(&mut store, 0, board);
+        calls += make(&mut store, &each(10)) + make(&mut store, &[(new(9, &[6]), 0)]);
+        assert_eq!(mark(&store.working, 1), [ALLOC, 2, 2, JOBS]);
+    }
+    calls
+}
+
+/// It takes up its slot, is written back with its four words, and is freed like any other.
+fn a_slot_on_another_board() -> usize {
+    let mut calls = 0;
+    for board in OTHER_BOARDS {
+        let mut store = sized(3, 2, 1);
+        let two = [(Call::Format { slots: 3, words: 2 }, 0), (BEGIN, 0), (new(8, &[5]), 0), (new(9, &[5]), 0)];
+        calls += make(&mut store, &two);
+        stray(&mut store, 0, board);
+        calls += make(&mut store, &[(new(8, &[6]), 13), (END, 0), (Call::WriteBack { slot: 0, line: 1 }, 0)]);
+        assert_eq!(mark(&store.persistent, 0), [ALLOC, 2, 1, board]);
+        calls += make(&mut store, &[(Call::Advance, TICKED), (BEGIN, 0), (delete(9), 0), (END, 0)]);
+        stray(&mut store, 1, board);
+        stray(&mut store, 2, board);
+        while store.working[2] < 7 {
+            compare(&mut store, &Call::Advance, any).unwrap_or_else(|what| panic!("{what}"));
+            calls += 1;
+        }
+        for image in [&store.working, &store.persistent] {
+            let marks = [0, 1, 2].map(|slot| mark(image, slot));
+            assert_eq!(marks, [[ALLOC, 2, 1, board], [0; 4], [0; 4]], "an image after the DELETE is freed");
+        }
+    }
+    calls
+}
+
+/// "condition 3 also covers a board other than 1": of each mark of an image that is in order else, a free one too.
+fn recoveries_of_other_boards() -> usize {
+    let in_order = [3, 2, 9, ALLOC, 5, 1, JOBS, UPDATE, 8, 2, JOBS, 0, 0, 0, 0, 3, 30, 4, 40, 5, 50];
+    let mut calls = 0;
+    for slot in 0..3 {
+        for board in [0, JOBS, 2, u32::MAX] {
+            let mut store = sized(3, 2, 1);
+            store.persistent = in_order.to_vec();
+            let is_in_order = mark(&store.persistent, slot)[BOARD] == board;
+            set_board(&mut store.persistent, slot, board);
+            let wanted = if is_in_order { [9, 1] } else { [refused(3); 2] };
+            assert_eq!(answers(&bytes_of(&store.persistent)), wanted, "slot {slot} on board {board}");
+            calls += make(&mut store, &[(Call::Recover, if is_in_order { WENT_ON } else { refused(3) })]);
+        }
+    }
+    calls
+}
+
+/// Where the value of a slot starts in an image of these sizes.
+fn value_place(slots: usize, words: usize, slot: usize) -> u64 {
+    (PREFIX + HEADER_WORDS * slots + words * slot + 1) as u64
+}
+
+fn mark(image: &[u32], slot: usize) -> [u32; HEADER_WORDS] {
+    let start = PREFIX + HEADER_WORDS * slot;
+    image[start..start + HEADER_WORDS].try_into().expect("a mark has its words")
+}
+
+/// Moves a slot of working to another board, which only damage does.
+fn stray(store: &mut Store, slot: usize, board: u32) {
+    set_board(&mut store.working, slot, board);
+}
+
+fn set_board(image: &mut [u32], slot: usize, board: u32) {
+    image[PREFIX + HEADER_WORDS * slot + BOARD] = board;
 }
 
 /// Makes the calls and holds the replies of library and simulator to those that 01 names.
@@ -124,7 +266,7 @@ fn make(store: &mut Store, calls: &[(Call, u64)]) -> usize {
 
 /// A store whose lengths and size words are these, in range or not, else as format leaves it.
 fn sized(slots: u32, words: u32, threads: u32) -> Store {
-    let mut image = vec![0; (3 + 3 * slots + words * slots) as usize];
+    let mut image = vec![0; PREFIX + (HEADER_WORDS + words as usize) * slots as usize];
     image[..3].copy_from_slice(&[slots, words, 2]);
     let mut transient = vec![0; (5 + threads + 3 * slots) as usize];
     transient[..3].copy_from_slice(&[slots, slots - 1, 1]);
@@ -145,4 +287,8 @@ fn delete(key: u32) -> Call {
 
 fn read(key: u32) -> Call {
     Call::Read { thread: 0, key }
+}
+
+fn read_refusal(key: u32) -> Call {
+    Call::ReadRefusal { thread: 0, key }
 }

@@ -73,5 +73,9 @@ fn compare(program: &Path, bytes: &[u8], wanted: &str, number: usize) {
     child.stdin.take().expect("the input is a pipe").write_all(bytes).expect("the program reads its input");
     let output = child.wait_with_output().expect("the program ends");
     let printed = String::from_utf8_lossy(&output.stdout);
-    assert!(printed == wanted, "{}, image {number}:\nprinted {printed}wanted  {wanted}bytes {bytes:?}", program.display());
+    assert!(
+        printed == wanted,
+        "{}, image {number}:\nprinted {printed}wanted  {wanted}bytes {bytes:?}",
+        program.display()
+    );
 }

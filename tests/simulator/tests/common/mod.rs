@@ -2,6 +2,7 @@
 
 use simulator::calls::{simulate, Call, TICKED, WENT_ON};
 use simulator::generator::unformatted;
+use simulator::image::Sizes;
 use simulator::random::Random;
 use simulator::store::Store;
 
@@ -14,6 +15,12 @@ pub fn new(thread: u32, key: u32) -> Call {
 
 pub fn delete(thread: u32, key: u32) -> Call {
     Call::Delete { thread, key }
+}
+
+/// A slot's mark: kind, label, uid, board.
+pub fn mark(image: &[u32], slot: usize) -> &[u32] {
+    let sizes = Sizes::of(image).expect("an image fits its sizes");
+    &image[sizes.header_line(slot)]
 }
 
 pub fn fresh(slots: u32, threads: u32) -> Store {

@@ -1,0 +1,75 @@
+//! The random images: were some sort of board rare among them, comparisons with the library would say little about it.
+
+use simulator::boards::as_jobs;
+use simulator::damage::any_image;
+use simulator::image::{Sizes, CLOCK, JOBS};
+use simulator::random::Random;
+use simulator::recovery::judge;
+
+/// How many marks or images there were of each sort.
+#[derive(Default, Debug)]
+struct Seen {
+    filled_on_0: u32,
+    filled_on_2: u32,
+    filled_on_another: u32,
+    free_with_a_board: u32,
+    uid_on_two_boards: u32,
+    key_on_two_boards: u32,
+    only_boards_wrong: u32,
+    accepted: u32,
+    refusals: [u32; 5],
+}
+
+impl Seen {
+    fn note(&mut self, image: &[u32]) {
+        match judge(image) {
+            Ok(_) => self.accepted += 1,
+            Err(refusal) => self.refusals[refusal as usize] += 1,
+        }
+        let Some(sizes) = Sizes::of(image) else { return };
+        for header in sizes.headers(image) {
+            match (header.is_filled(), header.board) {
+                (true, JOBS) | (false, 0) => {}
+                (true, 0) => self.filled_on_0 += 1,
+                (true, 2) => self.filled_on_2 += 1,
+                (true, _) => self.filled_on_another += 1,
+                (false, _) => self.free_with_a_board += u32::from(header.kind == 0),
+            }
+        }
+        self.note_kept(sizes, image);
+        let of_jobs = as_jobs(image);
+        self.only_boards_wrong += u32::from(of_jobs != image && judge(&of_jobs).is_ok());
+    }
+
+    /// One uid, and one key of payloads, on two boards of kept marks.
+    fn note_kept(&mut self, sizes: Sizes, image: &[u32]) {
+        let headers = sizes.headers(image);
+        let kept: Vec<usize> = (0..sizes.slots).filter(|&slot| headers[slot].is_kept(image[CLOCK])).collect();
+        let pair_of = |equal: &dyn Fn(usize, usize) -> bool| {
+            let differ = |&one: &usize, &other: &usize| headers[one].board != headers[other].board && equal(one, other);
+            kept.iter().any(|one| kept.iter().any(|other| differ(one, other)))
+        };
+        let uids = |one: usize, other: usize| headers[one].uid == headers[other].uid;
+        let keys = |one: usize, other: usize| {
+            let payloads = headers[one].is_payload() && headers[other].is_payload();
+            payloads && !uids(one, other) && sizes.key(image, one) == sizes.key(image, other)
+        };
+        self.uid_on_two_boards += u32::from(pair_of(&uids));
+        self.key_on_two_boards += u32::from(pair_of(&keys));
+    }
+}
+
+#[test]
+fn no_sort_of_board_is_rare_in_random_images() {
+    let mut random = Random::new(11);
+    let mut seen = Seen::default();
+    for _ in 0..20_000 {
+        let sizes = Sizes::new(random.between(2, 8), random.between(2, 4)).expect("these sizes are in range");
+        seen.note(&any_image(&mut random, sizes));
+    }
+    println!("seed 11, 20000 images, {seen:?}");
+    let marks = [seen.filled_on_0, seen.filled_on_2, seen.filled_on_another, seen.free_with_a_board];
+    let images = [seen.uid_on_two_boards, seen.key_on_two_boards, seen.only_boards_wrong];
+    assert!(marks.iter().chain(&images).all(|&times| times >= 200), "{seen:?}");
+    assert!(seen.accepted >= 5000 && seen.refusals[1..].iter().all(|&times| times >= 200), "{seen:?}");
+}
