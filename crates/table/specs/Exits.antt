@@ -22,7 +22,7 @@ use Rattle.image.specs.declared.header.Header.{Header}
 use Rattle.image.specs.Layout.{contentsAt, filledKind, payloadKind, header}
 use Rattle.image.specs.Line.{headerLine, stored, storeLine}
 use Rattle.image.specs.declared.name.Name.{Name}
-use Rattle.image.specs.Name.{nameAt, sameName}
+use Rattle.image.specs.Name.{jobName, nameAt, sameName}
 use Rattle.image.specs.Requires.{Slot, slot-of, slot-header, slot-after}
 use Rattle.image.specs.Laws.{area-top}
 use Rattle.image.specs.Storing.{storing-end}
@@ -46,10 +46,13 @@ and-yes : (a : Bool) → a ≡ a && true
 and-yes true = refl
 and-yes false = refl
 
-module _ (z : Sizes) (wk : List ℕ) (name : Name) (e s : ℕ) {nm : Name} {k : Bool} (is : nm ≡ name) (q : k ≡ sameName (nameAt wk (z .n) (z .w) s) nm) where
+pub job-named : (l : List ℕ) (n w s key : ℕ) {name : Name} {b : Bool} → name ≡ jobName key → b ≡ sameName (nameAt l n w s) name → b ≡ sameName (nameAt l n w s) (jobName key)
+job-named l n w s key e q = rw (← e) q
+
+module _ (z : Sizes) (wk : List ℕ) (name : Name) (e s : ℕ) {k : Bool} (q : k ≡ sameName (nameAt wk (z .n) (z .w) s) name) where
   pub newer-other : k ≡ false → false ≡ newerAt z wk name e s
   unfolding newerAt
-  newer-other d = rw (← is, ← q, d) (and-no (filledKind (header wk s .kind)))
+  newer-other d = rw (← q, d) (and-no (filledKind (header wk s .kind)))
 
   module _ {h : Header} {f : Bool} (d : k ≡ true) (at : h ≡ header wk s) (fl : f ≡ filledKind (h .kind)) where
     pub newer-free : f ≡ false → false ≡ newerAt z wk name e s
@@ -58,13 +61,13 @@ module _ (z : Sizes) (wk : List ℕ) (name : Name) (e s : ℕ) {nm : Name} {k : 
 
     pub newer-epoch : f ≡ true → ltb e (h .epoch) ≡ newerAt z wk name e s
     unfolding newerAt
-    newer-epoch t = rw (← at, ← fl, t, ← is, ← q, d)
+    newer-epoch t = rw (← at, ← fl, t, ← q, d)
 
-module _ (z : Sizes) (tb : Table) (name : Name) (s : ℕ) {nm : Name} {k : Bool} (is : nm ≡ name) (q : k ≡ sameName (nameAt (tb .working) (z .n) (z .w) s) nm) where
+module _ (z : Sizes) (tb : Table) (name : Name) (s : ℕ) {k : Bool} (q : k ≡ sameName (nameAt (tb .working) (z .n) (z .w) s) name) where
   pub live-other : k ≡ false → false ≡ liveAt z tb name s
   unfolding liveAt
   live-other d =
-      rw (← is, ← q, d, ← and-no (eqb (retiredIn z (tb .transient) s) 0))
+      rw (← q, d, ← and-no (eqb (retiredIn z (tb .transient) s) 0))
       (and-no (payloadKind (header (tb .working) s .kind)))
 
   module _ {h : Header} {p : Bool} (d : k ≡ true) (at : h ≡ header (tb .working) s) (pl : p ≡ payloadKind (h .kind)) where
@@ -74,7 +77,7 @@ module _ (z : Sizes) (tb : Table) (name : Name) (s : ℕ) {nm : Name} {k : Bool}
 
     pub live-retired : {r : ℕ} → p ≡ true → r ≡ retiredIn z (tb .transient) s → eqb r 0 ≡ liveAt z tb name s
     unfolding liveAt
-    live-retired {r} e re = rw (← at, ← pl, e, ← re, ← is, ← q, d) (and-yes (eqb r 0))
+    live-retired {r} e re = rw (← at, ← pl, e, ← re, ← q, d) (and-yes (eqb r 0))
 
 pub live-slot : (z : Sizes) (tb : Table) (name : Name) {r : Found} → r ≡ firstOf (liveAt z tb name) (z .n) → r ≡ liveSlot z tb name
 unfolding liveSlot
@@ -279,6 +282,6 @@ module _ (z : Sizes) (tr : List ℕ) (e s : ℕ) where
   unfolding taken joined
   taken-done p q r u = rw (u, r, q, p)
 
-pub ruleset finds = (firsts, rounds, shaped-slot, shaped-in, slot-note, slot-working, slot-head, slot-header, newer-other, newer-free, newer-epoch, live-other, live-not, live-retired, live-slot, sooner-old, sooner-here, sooner-not, ascending-start, ascending-next, lookup-later, lookup-live, lookup-absent, free-no, free-yes, ring-ahead, ring-round, ring-of, ring-header, entered-head, rooms-all, rooms-rest, room-one, room-none, room-two, room-alone)
+pub ruleset finds = (firsts, rounds, shaped-slot, shaped-in, slot-note, slot-working, slot-head, slot-header, job-named, newer-other, newer-free, newer-epoch, live-other, live-not, live-retired, live-slot, sooner-old, sooner-here, sooner-not, ascending-start, ascending-next, lookup-later, lookup-live, lookup-absent, free-no, free-yes, ring-ahead, ring-round, ring-of, ring-header, entered-head, rooms-all, rooms-rest, room-one, room-none, room-two, room-alone)
 
 pub ruleset fills = (emptying-start, emptying-next, storing-end, slot-of, key-in, value-fits, value-room, key-set, value-set, slot-value, value-slot, slot-after, header-after, filled-value, filled-zeros, note-head, note-slot, note-after, taken-done, joined-done)

@@ -5,7 +5,7 @@ use transient::sizes::Sizes;
 ghost use mathlib.Core.Path.{_≡_};
 ghost use Prim.Native.Nat.{_+_};
 ghost use Rattle.search.specs.Ring.{ringSlot, firstRound};
-ghost use Rattle.image.specs.Name.{jobName};
+ghost use Rattle.image.specs.Name.{jobName, nameAt, sameName};
 ghost use Rattle.image.specs.Requires.{Slot, HeaderFits};
 ghost use Rattle.transient.specs.Store.{table};
 ghost use Rattle.transient.specs.Requires.{Shaped, ShapedSlot, Entered};
@@ -19,12 +19,20 @@ pub enum Lookup {
     Absent,
 }
 
-// The key is looked at first: in most slots it is another one.
+// Does the slot have the name of the job `key`?
+fn of_job(working: &[u32], z: Sizes, key: u32, s: usize) -> bool
+    requires { ⌜ Slot (now working) (z .n) (z .w) s ⌝ }
+    ensures { λ r. ⌜ r ≡ sameName (nameAt (now (working .entry)) (z .n) (z .w) s) (jobName key) ⌝ }
+{
+    image::name::named_at(working, z.n, z.w, s, Name::job(key))
+}
+
+// The name is looked at first, and of it the key: in most slots it is another one.
 fn newer_at(working: &[u32], z: Sizes, key: u32, e: u32, s: usize) -> bool
     requires { ⌜ Slot (now working) (z .n) (z .w) s ⌝ }
     ensures { λ r. ⌜ r ≡ newerAt z (now (working .entry)) (jobName key) e s ⌝ }
 {
-    if image::name::named_at(working, z.n, z.w, s, Name::job(key)) {
+    if of_job(working, z, key, s) {
         let h = image::header::header_at(working, z.n, s);
         if image::header::filled(h.kind) {
             e < h.epoch
@@ -40,7 +48,7 @@ fn live_at(working: &[u32], transient: &[u32], z: Sizes, key: u32, s: usize) -> 
     requires { ⌜ ShapedSlot (now working) (now transient) z s ⌝ }
     ensures { λ r. ⌜ r ≡ liveAt z (table (now (working .entry)) (now (transient .entry))) (jobName key) s ⌝ }
 {
-    if image::name::named_at(working, z.n, z.w, s, Name::job(key)) {
+    if of_job(working, z, key, s) {
         let h = image::header::header_at(working, z.n, s);
         if image::header::payload(h.kind) {
             transient::notes::retired_in(transient, z, s) == 0

@@ -12,7 +12,6 @@ live-at-spec =
     (λ c κs. search (needs, finds))
     (λ c κs. search (needs, finds))
     (λ c κs. search (needs, finds))
-    (λ c κs. search (needs, finds))
     (λ c. search (needs, finds))
     (λ c. search (needs, finds))
     (λ c. search (needs, finds)))

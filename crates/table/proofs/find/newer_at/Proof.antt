@@ -11,7 +11,6 @@ newer-at-spec =
     (λ c κs. search (needs, finds))
     (λ c κs. search (needs, finds))
     (λ c κs. search (needs, finds))
-    (λ c κs. search (needs, finds))
     (λ c. search (needs, finds))
     (λ c. search (needs, finds))
     (λ c. search (needs, finds)))
