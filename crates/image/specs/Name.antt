@@ -12,15 +12,12 @@ use Rattle.image.specs.declared.name.Name.{Name}
 use Rattle.image.specs.Layout.{jobsBoard, contentsAt, header, keyAt}
 
 -- 02, No. 2: "Keys are unique within a board": a name is a board and a key
-abbrev pub nameOf : ℕ → ℕ → Name
-nameOf b k = record { board = b; key = k }
-
 abbrev pub jobName : ℕ → Name
-jobName key = nameOf jobsBoard key
+jobName key = record { board = jobsBoard; key = key }
 
 -- the name of what a slot holds
 unfoldable pub nameAt : List ℕ → ℕ → ℕ → ℕ → Name
-nameAt l n w s = nameOf (header l s .board) (getD l (contentsAt n w s) 0)
+nameAt l n w s = record { board = header l s .board; key = getD l (contentsAt n w s) 0 }
 
 unfoldable pub sameName : Name → Name → Bool
 sameName a b = eqb (a .key) (b .key) && eqb (a .board) (b .board)
@@ -30,6 +27,9 @@ unnamed name = eqb (name .key) 0
 
 abbrev pub Named : Name → Type 0
 Named name = name .key ≢ 0
+
+abbrev pub nameOf : ℕ → ℕ → Name
+nameOf b k = record { board = b; key = k }
 
 -- ---- the tests say what they ask
 pub names-meet : {a b : Name} → a .board ≡ b .board → a .key ≡ b .key → a ≡ b
