@@ -1,6 +1,6 @@
 -- The ways out of this program's functions: a law for each.
 use Prim.Native.Nat.{ℕ, zero, suc, _+_, _*_, _-_, _≤_, _<_}
-use mathlib.Core.Path.{_≡_, refl, sym}
+use mathlib.Core.Path.{_≡_}
 use mathlib.Core.Bool.{Bool, true, false}
 use mathlib.Core.Logic.{⊎-elim}
 use mathlib.Core.List.{List, [], _∷_, _++_, append-assoc, append-nil}
@@ -9,7 +9,7 @@ use native.Mathlib.Numerals.{add-one}
 use native.Mathlib.Omega.{arith}
 use Rattle.search.specs.Bools.{cases}
 use Rattle.text.specs.Text.{ascii, decimal, spaced}
-use Rattle.text.specs.Putting.{Appended, Spelt, put-both, line-of, decimal-short, spaced-short, figure-ends}
+use Rattle.text.specs.Putting.{Appended, Spelt, put-none, put-both, line-of, decimal-short, spaced-short, figure-ends}
 use Rattle.reply.specs.declared.Refusal.{Refusal}
 use Rattle.image.specs.Layout.{contentsAt, contents, slotsOf, widthOf, clockOf}
 use Rattle.image.specs.Requires.{Sized, Slot, slot, slot-of}
@@ -95,7 +95,7 @@ module _ (l : List ℕ) (n w s : ℕ) (flags : List Bool) (z : SlotMarked l n w 
   pub text-none : getD flags s false ≡ false → Appended before from (slotText l n w s) before from
   unfolding slotText
   text-none f =
-      rw (flag-is (z .flagged) (z .slot .within) f) (record { long = refl; ends = omega arith; is = sym (append-nil (take from before)) })
+      rw (flag-is (z .flagged) (z .slot .within) f) (put-none before from)
 
 -- ---- the loop
 lines-next : (l : List ℕ) (n w s : ℕ) → slotLines l n w (s + 1) ≡ slotLines l n w s ++ slotText l n w s
@@ -116,7 +116,7 @@ lines-short {l} {n} {w} z (suc s) h =
 pub listing-start : (before : List ℕ) (at : ℕ) (l : List ℕ) (n w : ℕ) → Listing before at l n w 0 before at
 unfolding slotLines
 listing-start before at l n w =
-    record { low = omega arith; so-far = record { long = refl; ends = omega arith; is = sym (append-nil (take at before)) } }
+    record { low = omega arith; so-far = put-none before at }
 
 module _ (at : ℕ) {before l out : List ℕ} {n w s k : ℕ} {flags : List Bool} (m : AllMarked l n w flags) (z : Listing before at l n w s out k) where
   pub listing-room : s < n → at + 256 * n ≤ length before → k + 256 ≤ length out

@@ -24,6 +24,10 @@ pub record Appended (before : List ℕ) (at : ℕ) (text : List ℕ) (after : Li
   pub ends : end ≡ at + length text
   pub is : take end after ≡ take at before ++ text
 
+-- no text
+pub put-none : (before : List ℕ) (at : ℕ) → Appended before at [] before at
+put-none before at = record { long = refl; ends = omega arith; is = sym (append-nil (take at before)) }
+
 -- one text, and behind it another
 pub put-both : {a b c s t : List ℕ} {at m e : ℕ} → Appended a at s b m → Appended b m t c e → Appended a at (s ++ t) c e
 put-both {a} {b} {c} {s} {t} {at} {m} {e} x y =
@@ -51,9 +55,7 @@ pub record Putting (before : List ℕ) (at : ℕ) (part : List ℕ) (i : ℕ) (o
   pub so-far : Appended before at (take i part) out (at + i)
 
 pub putting-start : (before : List ℕ) (at : ℕ) (part : List ℕ) → Putting before at part 0 before
-putting-start before at part =
-    let e : at + 0 ≡ at = omega arith in
-    record { low = omega arith; so-far = record { long = refl; ends = refl; is = rw e (sym (append-nil (take at before))) } }
+putting-start before at part = let e : at + 0 ≡ at = omega arith in record { low = omega arith; so-far = rw e (put-none before at) }
 
 pub putting-next : {before : List ℕ} {at : ℕ} {part : List ℕ} {i : ℕ} {out : List ℕ} {v : ℕ} → Putting before at part i out → i < length part
     → at + length part ≤ length before → v ≡ getD part i 0 → Putting before at part (i + 1) (set out (at + i) v)
@@ -171,11 +173,7 @@ pub record Spacing (before : List ℕ) (at : ℕ) (numbers : List ℕ) (i : ℕ)
 pub spacing-start : (before : List ℕ) (at : ℕ) (numbers : List ℕ) → Spacing before at numbers 0 before at
 unfolding spaced
 spacing-start before at numbers =
-    record {
-      low = omega arith;
-      so-far = record { long = refl; ends = omega arith; is = sym (append-nil (take at before)) };
-      room = omega arith;
-    }
+    record { low = omega arith; so-far = put-none before at; room = omega arith }
 
 pub spacing-next : {before : List ℕ} {at : ℕ} {numbers : List ℕ} {i : ℕ} {out out′ : List ℕ} {k k′ x : ℕ} → Spacing before at numbers i out k → i < length numbers
     → x ≡ getD numbers i 0 → Appended out k ((32 ∷ []) ++ decimal x) out′ k′ → Spacing before at numbers (i + 1) out′ k′
