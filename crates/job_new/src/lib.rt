@@ -30,14 +30,8 @@ fn new_at(
     ensures { λ r. ⌜ changed r (now (working .exit)) (now (transient .exit)) ≡ newAt z (table (now (working .entry)) (now (transient .entry))) e s (job key (now (value .entry))) ⌝ }
 {
     let uid = transient::notes::next_uid(transient);
-    table::fill::fill(
-        working,
-        z,
-        s,
-        Header::fresh(e, uid, Header::JOBS),
-        key,
-        value,
-    );
+    let h = Header::fresh(e, uid, Header::JOBS);
+    table::fill::fill(working, z, s, h, key, value);
     table::fill::note_taken(transient, z, e, s);
     transient::notes::set_next_uid(transient, uid + 1);
     Check::Accepted
