@@ -1,12 +1,12 @@
 // The calls that make changes lasting: advance, sync, and a line written back.
-use epochs::Advance;
-use epochs::Sync;
+use step::Advance;
+use sync::answer::Sync;
 ghost use mathlib.Core.Path.{_≡_};
 ghost use Rattle.transient.specs.Store.{store, outcome};
 ghost use Rattle.transient.specs.Calls.{checkNumber};
-ghost use Rattle.epochs.specs.Advance.{advance, advanceNumber};
-ghost use Rattle.epochs.specs.Sync.{sync, syncNumber};
-ghost use Rattle.epochs.specs.WriteBack.{writeBack};
+ghost use Rattle.advance.specs.Advance.{advance, advanceNumber};
+ghost use Rattle.sync.specs.Sync.{sync, syncNumber};
+ghost use Rattle.write_back.specs.WriteBack.{writeBack};
 ghost use Rattle.board.specs.Calls.{numbered};
 
 // 0 went on, 1 ticked, or 2^32 plus the refusal.
@@ -18,7 +18,7 @@ pub extern "C" fn board_advance(
 ) -> u64
     ensures { λ r. ⌜ outcome r (now (working .exit)) (now (persistent .exit)) (now (transient .exit)) ≡ numbered advanceNumber (advance (store (now (working .entry)) (now (persistent .entry)) (now (transient .entry)))) ⌝ }
 {
-    match epochs::advancing::advance(working, persistent, transient) {
+    match advance::advance(working, persistent, transient) {
         Advance::WentOn => 0,
         Advance::Ticked => 1,
         Advance::Declined(r) => reply::declined(r),
@@ -40,7 +40,7 @@ pub extern "C" fn board_sync(
 ) -> u64
     ensures { λ r. ⌜ outcome r (now (working .exit)) (now (persistent .exit)) (now (transient .exit)) ≡ numbered syncNumber (sync (store (now (working .entry)) (now (persistent .entry)) (now (transient .entry)))) ⌝ }
 {
-    match epochs::syncing::sync(working, persistent, transient) {
+    match sync::sync(working, persistent, transient) {
         Sync::Done(lines) => line_count(lines),
         Sync::Declined(r) => reply::declined(r),
     }
@@ -57,11 +57,5 @@ pub extern "C" fn board_write_back(
 ) -> u32
     ensures { λ r. ⌜ outcome r (now (working .entry)) (now (persistent .exit)) (now (transient .entry)) ≡ numbered checkNumber (writeBack (store (now (working .entry)) (now (persistent .entry)) (now (transient .entry))) slot line) ⌝ }
 {
-    crate::on_jobs::reply_number(epochs::write_back::write_back(
-        working,
-        persistent,
-        transient,
-        slot,
-        line,
-    ))
+    crate::on_jobs::reply_number(write_back::write_back(working, persistent, transient, slot, line))
 }

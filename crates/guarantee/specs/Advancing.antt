@@ -18,10 +18,11 @@ use Rattle.transient.specs.Layout.{note, phaseAt, placeAt, openEpoch}
 use Rattle.transient.specs.Store.{Store, tableOf, sizesOf, Outcome, afterCheck}
 use Rattle.transient.specs.Entry.{entryCheck}
 use Rattle.transient.specs.Passed.{entry-with}
-use Rattle.epochs.specs.declared.Advance.{Advance}
-use Rattle.epochs.specs.declared.Advance.the-variants.{Declined}
-use Rattle.epochs.specs.Advance.{reclaimNext, contentsNext, headerNext, clockNext, place, step, noted, advance}
-use Rattle.epochs.specs.Stages.{underway, openBelow, heldCheck, advanceSized, advance-is}
+use Rattle.step.specs.declared.Advance.{Advance}
+use Rattle.step.specs.declared.Advance.the-variants.{Declined}
+use Rattle.step.specs.Step.{reclaimNext, contentsNext, headerNext, clockNext, place, step}
+use Rattle.advance.specs.Advance.{noted, advance}
+use Rattle.advance.specs.Stages.{underway, openBelow, heldCheck, advanceSized, advance-is}
 use Rattle.crash.specs.Reference.{Jobs}
 use Rattle.crash.specs.Slots.{Place}
 use Rattle.guarantee.specs.Trace.{Plain, toldAdvance}

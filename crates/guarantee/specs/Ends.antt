@@ -1,17 +1,37 @@
 -- A sync in a run that passes its check reports done, whatever lines the memory writes back before its advance calls.
 use Prim.Native.Nat.{ℕ, zero, suc, _*_, _≤_}
-use mathlib.Core.Path.{_≡_, refl}
+use mathlib.Core.Path.{_≡_, refl, _∙_}
 use mathlib.Core.List.{List, [], _∷_}
 use native.Mathlib.Omega.{arith}
 use Rattle.reply.specs.declared.Check.the-variants.{Accepted}
-use Rattle.image.specs.Layout.{slotsOf}
-use Rattle.transient.specs.Store.{Store, tableOf}
-use Rattle.epochs.specs.Advance.{advance}
-use Rattle.epochs.specs.Sync.{syncCheck, byReply}
-use Rattle.epochs.specs.Stages.{mostLines}
-use Rattle.epochs.specs.Left.{advance-moves, budget, budget-top, budget-low, budget-on, budget-tick}
-use Rattle.epochs.specs.Kept.{Quiet, check-quiet, quiet-place, Onward, went, ticked, advance-quiet, quiet-back, back-same}
+use Rattle.image.specs.Layout.{slotsOf, clockOf}
+use Rattle.image.specs.Laws.{front-past-header, front-past-contents}
+use Rattle.transient.specs.Store.{Store, store, tableOf}
+use Rattle.transient.specs.Entry.{entryCheck}
+use Rattle.step.specs.Kept.{Alike, unchanged, header-alike, contents-alike}
+use Rattle.advance.specs.Advance.{advance}
+use Rattle.advance.specs.Stages.{mostLines}
+use Rattle.advance.specs.Left.{advance-moves}
+use Rattle.sync.specs.Sync.{syncCheck, byReply}
+use Rattle.sync.specs.Budget.{budget, budget-top, budget-low, budget-on, budget-tick}
+use Rattle.sync.specs.Quiet.{Quiet, images-same, check-quiet, quiet-place, Onward, went, ticked, advance-quiet}
+use Rattle.write_back.specs.WriteBack.{writeBack}
+use Rattle.write_back.specs.Ways.{back-way, back-same}
 use Rattle.guarantee.specs.Trace.{Moment, stay, afterLines, afterLine, toldAdvance, afterAdvance, syncing, syncs, through}
+
+-- lines that the memory writes back in the middle of a sync do not disturb it: working and notes stay
+back-entry : (wk l l′ tr : List ℕ) → Alike l l′ → clockOf l′ ≡ clockOf l → entryCheck (store wk l′ tr) ≡ entryCheck (store wk l tr)
+unfolding entryCheck
+back-entry wk l l′ tr a c = rw (images-same (unchanged wk) a, c)
+
+quiet-back : (ticks : ℕ) (st : Store) (slot code : ℕ) → Quiet ticks st → Quiet ticks (writeBack st slot code .store)
+quiet-back ticks st slot code q =
+    back-way (λ x. Quiet ticks (x .store)) st slot code (λ r. q)
+    (back (contents-alike (st .persistent) _ _ slot _) (front-past-contents (st .persistent) _ _ slot 2 _ (omega arith)))
+    (back (header-alike (st .persistent) slot _) (front-past-header (st .persistent) slot 2 _ (omega arith)))
+  where
+    back : {l′ : List ℕ} → Alike (st .persistent) l′ → clockOf l′ ≡ clockOf (st .persistent) → Quiet ticks (store (st .working) l′ (st .transient))
+    back a c = record { entry = back-entry (st .working) (st .persistent) _ (st .transient) a c ∙ q .entry; none-open = q .none-open; room = q .room }
 
 -- the reference map has heard of it
 pub record Ended (m : Moment) : Type 0 where

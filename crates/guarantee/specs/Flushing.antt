@@ -24,9 +24,10 @@ use Rattle.transient.specs.Layout.{retiredIn, isWaiting}
 use Rattle.transient.specs.Store.{Store, store, Outcome, outcome, afterCheck}
 use Rattle.transient.specs.Entry.{entryCheck}
 use Rattle.transient.specs.Laws.{waiting-again}
-use Rattle.epochs.specs.Advance.{ticking, headerNext, contentsNext, clockNext, contentsFlushed, headerFlushed, flushFrom, passing}
-use Rattle.epochs.specs.WriteBack.{writeBack}
-use Rattle.epochs.specs.Stages.{waitingFrom, heldLine, writeBackSized, write-back-is}
+use Rattle.step.specs.Step.{ticking, headerNext, contentsNext, clockNext, contentsFlushed, headerFlushed, flushFrom, passing}
+use Rattle.step.specs.Stages.{waitingFrom}
+use Rattle.write_back.specs.WriteBack.{writeBack}
+use Rattle.write_back.specs.Stages.{heldLine, writeBackSized, write-back-is}
 use Rattle.crash.specs.Table.{Put}
 use Rattle.crash.specs.Reference.{Jobs}
 use Rattle.crash.specs.Slots.{Slot, SameHead, SameLine, Inv}

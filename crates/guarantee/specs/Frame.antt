@@ -16,8 +16,8 @@ use Rattle.transient.specs.Store.{Store, store}
 use Rattle.transient.specs.Layout.{note, nextUidAt, phaseAt, placeAt, openEpoch, isWaiting}
 use Rattle.transient.specs.Requires.{notes-after}
 use Rattle.transient.specs.Laws.{HeadKept, waiting-again}
-use Rattle.epochs.specs.Advance.{reclaimNext, contentsNext, headerNext, clockNext}
-use Rattle.epochs.specs.Stages.{underway}
+use Rattle.step.specs.Step.{reclaimNext, contentsNext, headerNext, clockNext}
+use Rattle.advance.specs.Stages.{underway}
 use Rattle.crash.specs.Table.{Put}
 use Rattle.crash.specs.Reference.{Jobs, Change}
 use Rattle.crash.specs.Slots.{Value, Slot, State, Place, Inv}

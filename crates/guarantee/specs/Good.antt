@@ -11,7 +11,7 @@ use Rattle.transient.specs.Requires.{Notes}
 use Rattle.transient.specs.Store.{Store}
 use Rattle.crash.specs.Reference.{Jobs}
 use Rattle.crash.specs.Slots.{State, Inv}
-use Rattle.epochs.specs.Stages.{underway}
+use Rattle.advance.specs.Stages.{underway}
 use Rattle.guarantee.specs.Trace.{Plain, plain, Moment}
 use Rattle.guarantee.specs.View.{view, progress}
 

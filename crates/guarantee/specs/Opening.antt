@@ -18,7 +18,7 @@ use Rattle.transient.specs.Requires.{notes-after}
 use Rattle.transient.specs.Laws.{open-same, open-other, open-slots, open-phase, open-slot, open-uid, open-long}
 use Rattle.begin_end.specs.Operation.{begin, end}
 use Rattle.begin_end.specs.Stages.{beginSized, endSized}
-use Rattle.epochs.specs.Stages.{underway}
+use Rattle.advance.specs.Stages.{underway}
 use Rattle.crash.specs.Reference.{Jobs}
 use Rattle.guarantee.specs.Trace.{Plain, plain, toldBegin, toldEnd}
 use Rattle.guarantee.specs.View.{view, same-view}

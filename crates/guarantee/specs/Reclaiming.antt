@@ -17,8 +17,8 @@ use Rattle.image.specs.Line.{headerLine, storeLine}
 use Rattle.transient.specs.declared.sizes.Sizes.{Sizes}
 use Rattle.transient.specs.Layout.{retiredIn, setRetired, setPlace}
 use Rattle.transient.specs.Store.{Store, Table, store, tableOf}
-use Rattle.epochs.specs.Advance.{flushFrom, reclaimNext, contentsNext, due, reclaimed, reclaimFrom, passing}
-use Rattle.epochs.specs.Stages.{dueFrom}
+use Rattle.step.specs.Step.{flushFrom, reclaimNext, contentsNext, due, reclaimed, reclaimFrom, passing}
+use Rattle.step.specs.Stages.{dueFrom}
 use Rattle.crash.specs.Table.{Put}
 use Rattle.crash.specs.Reference.{Jobs}
 use Rattle.crash.specs.Slots.{Slot, Swept}

@@ -10,11 +10,11 @@ use Rattle.reply.specs.Refusals.{byCheck}
 use Rattle.image.specs.Layout.{slotsOf}
 use Rattle.transient.specs.declared.sizes.Sizes.{Sizes}
 use Rattle.transient.specs.Store.{Store, tableOf, sizesOf}
-use Rattle.epochs.specs.declared.Advance.{Advance}
-use Rattle.epochs.specs.declared.Advance.the-variants.{WentOn, Ticked, Declined}
-use Rattle.epochs.specs.Advance.{advance}
-use Rattle.epochs.specs.Sync.{syncCheck, byReply}
-use Rattle.epochs.specs.Stages.{mostLines}
+use Rattle.step.specs.declared.Advance.{Advance}
+use Rattle.step.specs.declared.Advance.the-variants.{WentOn, Ticked, Declined}
+use Rattle.advance.specs.Advance.{advance}
+use Rattle.advance.specs.Stages.{mostLines}
+use Rattle.sync.specs.Sync.{syncCheck, byReply}
 use Rattle.crash.specs.Reference.{Jobs}
 use Rattle.guarantee.specs.Trace.{Call, begins, ends, news, sets, deletes, reads, advances, syncs, writesBack, Plain, plain, toldAdvance, Moment, Trace, stay, one, followed, afterAdvance, afterLine, afterLines, syncing, through, run, moments}
 use Rattle.guarantee.specs.Promise.{jobsOf, Started}

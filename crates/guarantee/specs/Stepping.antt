@@ -17,7 +17,7 @@ use Rattle.transient.specs.Layout.{note, nextUidAt, openEpoch, retiredIn, isWai
 use Rattle.transient.specs.Store.{Store, store}
 use Rattle.transient.specs.Requires.{Notes, notes-after}
 use Rattle.transient.specs.Laws.{SlotKept, slot-then, place-long, place-opens, place-slots, place-uid, retired-front, retired-same, retired-waiting, retired-aside, phase-set, slot-set}
-use Rattle.epochs.specs.Advance.{idle, reclaimNext, contentsNext, headerNext, clockNext, passing}
+use Rattle.step.specs.Step.{idle, reclaimNext, contentsNext, headerNext, clockNext, passing}
 use Rattle.crash.specs.Table.{Put}
 use Rattle.crash.specs.Reference.{Jobs}
 use Rattle.crash.specs.Slots.{Place, Inv}

@@ -18,14 +18,17 @@ use Rattle.job_set.specs.Set.{setJob}
 use Rattle.job_set.specs.Stages.{setOpened, setSized}
 use Rattle.job_delete.specs.Delete.{deleteJob}
 use Rattle.job_delete.specs.Stages.{deleteOpen, deleteSized}
-use Rattle.epochs.specs.declared.Place.{Place}
-use Rattle.epochs.specs.declared.Advance.{Advance}
-use Rattle.epochs.specs.declared.Advance.the-variants.{WentOn, Ticked, Declined}
-use Rattle.epochs.specs.Advance.{reclaimed, contentsFlushed, headerFlushed, ticking, step, advance}
-use Rattle.epochs.specs.Ways.{every-way, nextStep, advance-way, back-way}
-use Rattle.epochs.specs.Sync.{syncCheck, byReply}
-use Rattle.epochs.specs.Stages.{mostLines}
-use Rattle.epochs.specs.WriteBack.{writeBack}
+use Rattle.step.specs.declared.Place.{Place}
+use Rattle.step.specs.declared.Advance.{Advance}
+use Rattle.step.specs.declared.Advance.the-variants.{WentOn, Ticked, Declined}
+use Rattle.step.specs.Step.{reclaimed, contentsFlushed, headerFlushed, ticking, step}
+use Rattle.step.specs.Ways.{every-way}
+use Rattle.advance.specs.Advance.{advance}
+use Rattle.advance.specs.Stages.{mostLines}
+use Rattle.advance.specs.Ways.{nextStep, advance-way}
+use Rattle.sync.specs.Sync.{syncCheck, byReply}
+use Rattle.write_back.specs.WriteBack.{writeBack}
+use Rattle.write_back.specs.Ways.{back-way}
 use Rattle.guarantee.specs.Changing.{call-way}
 use Rattle.guarantee.specs.Trace.{Call, begins, ends, news, sets, deletes, reads, advances, syncs, writesBack, Moment, Trace, stay, one, followed, afterAdvance, afterLine, afterLines, syncing, through, run}
 

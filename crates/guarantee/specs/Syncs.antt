@@ -9,13 +9,13 @@ use Rattle.reply.specs.declared.Check.the-variants.{Accepted, Refused}
 use Rattle.reply.specs.Refusals.{byCheck}
 use Rattle.image.specs.Layout.{slotsOf}
 use Rattle.transient.specs.Store.{Outcome, afterCheck}
-use Rattle.epochs.specs.declared.Advance.{Advance}
-use Rattle.epochs.specs.declared.Advance.the-variants.{WentOn, Ticked, Declined}
-use Rattle.epochs.specs.declared.Sync.{Sync}
-use Rattle.epochs.specs.declared.Sync.the-variants as reply
-use Rattle.epochs.specs.Advance.{advance}
-use Rattle.epochs.specs.Sync.{syncCheck, byReply, syncFrom, sync}
-use Rattle.epochs.specs.Stages.{mostLines}
+use Rattle.step.specs.declared.Advance.{Advance}
+use Rattle.step.specs.declared.Advance.the-variants.{WentOn, Ticked, Declined}
+use Rattle.advance.specs.Advance.{advance}
+use Rattle.advance.specs.Stages.{mostLines}
+use Rattle.sync.specs.declared.answer.Sync.{Sync}
+use Rattle.sync.specs.declared.answer.Sync.the-variants as reply
+use Rattle.sync.specs.Sync.{syncCheck, byReply, syncFrom, sync}
 use Rattle.guarantee.specs.Trace.{Moment, Trace, stay, one, followed, afterAdvance, afterLines, toldAdvance, syncing, syncs, through}
 
 -- the trace tr is that of a sync with the answer a

@@ -13,8 +13,9 @@ use Rattle.transient.specs.Layout.{note, nextUidAt, openEpoch, retiredIn, isWai
 use Rattle.transient.specs.Store.{Store, store}
 use Rattle.transient.specs.Requires.{Notes, notes-after}
 use Rattle.transient.specs.Laws.{SlotKept, waiting-again, place-long, place-opens, place-slots, place-uid, emptied-front, emptied-none, emptied-next, emptied-retired, phase-set, slot-set}
-use Rattle.epochs.specs.Advance.{Stepped, idle, ticking, noted}
-use Rattle.epochs.specs.Stages.{underway}
+use Rattle.step.specs.Step.{Stepped, idle, ticking}
+use Rattle.advance.specs.Advance.{noted}
+use Rattle.advance.specs.Stages.{underway}
 use Rattle.crash.specs.Reference.{Jobs}
 use Rattle.crash.specs.Slots.{Swept, Flushed}
 use Rattle.crash.specs.Steps.{ticked}

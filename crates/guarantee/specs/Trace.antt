@@ -15,10 +15,10 @@ use Rattle.jobs.specs.Job.{Job}
 use Rattle.job_new.specs.New.{newJob}
 use Rattle.job_set.specs.Set.{setJob}
 use Rattle.job_delete.specs.Delete.{deleteJob}
-use Rattle.epochs.specs.declared.Advance.{Advance}
-use Rattle.epochs.specs.Advance.{advance}
-use Rattle.epochs.specs.Sync.{syncCheck, byReply}
-use Rattle.epochs.specs.WriteBack.{writeBack}
+use Rattle.step.specs.declared.Advance.{Advance}
+use Rattle.advance.specs.Advance.{advance}
+use Rattle.sync.specs.Sync.{syncCheck, byReply}
+use Rattle.write_back.specs.WriteBack.{writeBack}
 use Rattle.crash.specs.Reference.{Change}
 
 -- a call with its arguments; a sync also with the lines that the memory writes back before each of its advance calls, the first

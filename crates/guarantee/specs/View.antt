@@ -16,7 +16,7 @@ use Rattle.image.specs.Name.{nameOf}
 use Rattle.transient.specs.declared.sizes.Sizes.{Sizes}
 use Rattle.transient.specs.Store.{Store}
 use Rattle.transient.specs.Layout.{retiredIn, isWaiting}
-use Rattle.epochs.specs.Advance.{reclaimNext, contentsNext, headerNext, clockNext}
+use Rattle.step.specs.Step.{reclaimNext, contentsNext, headerNext, clockNext}
 use Rattle.crash.specs.Table.{Put, Put2}
 use Rattle.crash.specs.Slots.{Entry, Slot, Place}
 use Rattle.crash.specs.Steps.{entry}

@@ -18,7 +18,7 @@ use Rattle.transient.specs.declared.sizes.Sizes.{Sizes}
 use Rattle.transient.specs.Layout.{retiredIn}
 use Rattle.transient.specs.Store.{Table}
 use Rattle.survival.specs.Survivors.{kept, beats, survivor, survivorCount}
-use Rattle.epochs.specs.Advance.{due}
+use Rattle.step.specs.Step.{due}
 use Rattle.guarantee.specs.Says.{payload-says}
 
 -- a line of 01, as a case

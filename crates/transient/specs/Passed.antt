@@ -12,13 +12,13 @@ use Rattle.reply.specs.declared.Check.{Check}
 use Rattle.reply.specs.declared.Check.the-variants.{Accepted, Refused}
 use Rattle.reply.specs.declared.Refusal.{Refusal}
 use Rattle.reply.specs.declared.Refusal.the-variants.{BadSizes, BadClock}
-use Rattle.reply.specs.Refusals.{refuse, not-refused}
+use Rattle.reply.specs.Refusals.{refuse, byCheck, not-refused}
 use Rattle.image.specs.Layout.{mostNumber, slotsOf, widthOf, clockOf, shapeOk, clockOk}
 use Rattle.image.specs.Requires.{Sized}
 use Rattle.image.specs.Laws.{shaped}
 use Rattle.transient.specs.declared.sizes.Sizes.{Sizes}
 use Rattle.transient.specs.Layout.{threadsOf, threadsOk, note, slotsAt, lastAt, nextUidAt, placeAt}
-use Rattle.transient.specs.Store.{Store, Table, store, table, sizesOf, Outcome, outcome}
+use Rattle.transient.specs.Store.{Store, Table, store, table, sizesOf, Outcome, outcome, afterCheck}
 use Rattle.transient.specs.Entry.{imagesFit, notesFit, entryCheck}
 use Rattle.transient.specs.Calls.{Changed, changed, onStore}
 use Rattle.transient.specs.Requires.{uidOk, sizesFit, clocksFit, Notes, Sizable, Entered, EnteredWith}
@@ -129,5 +129,11 @@ module _ (wk l tr : List ℕ) {k : Check} (c : k ≡ entryCheck (store wk l tr))
   pub on-passed : (call : Sizes → Table → Changed) {q : Check} {wk′ tr′ : List ℕ} → k ≡ Accepted
       → changed q wk′ tr′ ≡ call (sizesOf (table wk tr)) (table wk tr) → outcome q wk′ l tr′ ≡ onStore (store wk l tr) call
   on-passed call a h = rw (← c, a) (ap (inStore (store wk l tr)) h)
+
+-- two checks in a row: the first that refuses
+pub two-checks : {A : Type 0} (j k : Check) (decline : Refusal → A) (st : Store) (next : Outcome A)
+    → afterCheck (byCheck j Refused k) decline st next ≡ afterCheck j decline st (afterCheck k decline st next)
+two-checks Accepted k decline st next = refl
+two-checks (Refused r) k decline st next = refl
 
 pub ruleset passing = (entered-sizable, sized-entered, sized-with, entry-entered, entry-both)

@@ -1,0 +1,192 @@
+-- The ways out of a step: what is due, what waits, the lines, and the step by its phase.
+use Prim.Native.Nat.{ℕ, _+_, _-_, _≤_, _<_}
+use mathlib.Core.Path.{_≡_, refl, sym, _∙_}
+use mathlib.Core.Bool.{Bool, true, false, _&&_}
+use mathlib.Core.Logic.{⊎-elim}
+use mathlib.Core.List.{List}
+use lib.Dec.{eqb}
+use borrow.Author.Tests.{lt-ltb, le-ltb, eq-eqb, ne-eqb}
+use Rattle.search.specs.Bools.{cases}
+use Rattle.search.specs.declared.Found.{Found}
+use Rattle.search.specs.declared.Found.the-variants.{At, Nothing}
+use Rattle.image.specs.declared.header.Header.{Header}
+use Rattle.image.specs.Layout.{mostSlots, payloadKind, header, freeHeader}
+use Rattle.image.specs.Line.{headerLine, clockLine, storeLine}
+use Rattle.image.specs.Requires.{kindAt, heldHeader, heldContents, Slots, slot}
+use Rattle.transient.specs.declared.sizes.Sizes.{Sizes}
+use Rattle.transient.specs.Layout.{retiredIn, isWaiting, setRetired, emptied}
+use Rattle.transient.specs.Store.{store, table}
+use Rattle.transient.specs.Requires.{ShapedSlot, slot-note, slot-head}
+use Rattle.step.specs.declared.Place.{Place}
+use Rattle.step.specs.declared.Advance.the-variants.{WentOn, Ticked}
+use Rattle.step.specs.Step.{idle, reclaimNext, contentsNext, headerNext, clockNext, Stepped, stepped, place, passing, due, reclaimed, contentsFlushed, headerFlushed, ticking, flushFrom, reclaimFrom, step}
+use Rattle.step.specs.Stages.{dueFrom, waitingFrom}
+use Rattle.step.specs.Requires.{retiredDue, payloadDue, Freed, reclaimAt, Waiting, Going, slots-first, slots-second, waiting-note, going-advancing, going-first, requires-laws}
+use Rattle.step.specs.From.{From, from-start, froms, pairs, due-is, due-between, waiting-is, waiting-between}
+
+-- ---- what is due
+pub retired-none : (r c : ℕ) → r ≡ 0 → false ≡ retiredDue r c
+unfolding retiredDue
+retired-none r c h = rw (eq-eqb r 0 h)
+
+pub retired-due : (r c : ℕ) {a b : ℕ} → (r ≡ 0 → ⊥) → a ≡ r → b ≡ c → eqb (a + 2) b ≡ retiredDue r c
+unfolding retiredDue
+retired-due r c h p q = rw (ne-eqb r 0 h, p, q)
+
+and-none : (a : Bool) → false ≡ a && false
+and-none true = refl
+and-none false = refl
+
+and-sure : (a : Bool) → a ≡ a && true
+and-sure true = refl
+and-sure false = refl
+
+module _ (z : Sizes) (wk tr : List ℕ) (c s : ℕ) where
+  module _ {r : ℕ} {d : Bool} (re : r ≡ retiredIn z tr s) (de : d ≡ retiredDue r c) where
+    pub payload-young : d ≡ false → false ≡ payloadDue z (table wk tr) c s
+    unfolding payloadDue
+    payload-young e = rw (← re, ← de, e) (and-none (payloadKind (header wk s .kind)))
+
+    pub payload-kind : {k : ℕ} {p : Bool} → d ≡ true → k ≡ kindAt wk s → p ≡ payloadKind k → p ≡ payloadDue z (table wk tr) c s
+    unfolding payloadDue header
+    payload-kind {k} e ke pe = rw (← re, ← de, e, ← ke, ← and-sure (payloadKind k)) pe
+
+  module _ {q : Bool} (qe : q ≡ payloadDue z (table wk tr) c s) where
+    pub due-payload : q ≡ true → true ≡ due z (table wk tr) c s
+    unfolding due payloadDue retiredDue
+    due-payload e = rw (← qe, e)
+
+    module _ {h : Header} (e : q ≡ false) (at : h ≡ header wk s) where
+      pub due-delete : {a b : ℕ} → h .kind ≡ 3 → a ≡ h .epoch → b ≡ c → eqb (a + 3) b ≡ due z (table wk tr) c s
+      unfolding due payloadDue retiredDue
+      due-delete k x y = rw (← qe, e, ← at, k, x, y)
+
+      pub due-other : (h .kind ≡ 3 → ⊥) → false ≡ due z (table wk tr) c s
+      unfolding due payloadDue retiredDue
+      due-other k = rw (← qe, e, ← at, ne-eqb (h .kind) 3 k)
+
+pub due-start : {wk tr : List ℕ} {z : Sizes} {p : ℕ} (c : ℕ) → ShapedSlot wk tr z p → From (due z (table wk tr) c) (z .n) p p
+due-start {wk} {tr} {z} {p} c y = from-start (due z (table wk tr) c) (z .n) p (y .slot .within)
+
+pub due-slot : {wk tr : List ℕ} {z : Sizes} {p s : ℕ} → ShapedSlot wk tr z p → s < z .n → ShapedSlot wk tr z s
+due-slot y h = record { slot = slot (y .slot .sized) h; notes = y .notes }
+
+-- ---- what waits
+pub waiting-start : {tr : List ℕ} {z : Sizes} {c p : ℕ} → Waiting tr z c p → From (isWaiting z tr (c - 1)) (z .n) p p
+waiting-start {tr} {z} {c} {p} y = from-start (isWaiting z tr (c - 1)) (z .n) p (y .note .within)
+
+pub waiting-few : {tr : List ℕ} {z : Sizes} {c p : ℕ} → Waiting tr z c p → z .n ≤ mostSlots
+waiting-few y = y .note .notes .slots-hi
+
+-- ---- a slot found is one of the table
+module _ {wk l tr : List ℕ} {z : Sizes} {c p s : ℕ} {f : Found} (y : Going wk l tr z c p) where
+  pub going-due : f ≡ dueFrom z (table wk tr) c p → f ≡ At s → Going wk l tr z c s
+  going-due e a = record { advancing = y .advancing; within = due-between z (table wk tr) c p (sym e ∙ a) .below }
+
+  pub going-wait : f ≡ waitingFrom z tr c p → f ≡ At s → Slots wk l (z .n) (z .w) s
+  going-wait e a =
+      let h = waiting-between z tr c p (sym e ∙ a) .below in
+      record { first = slot (y .advancing .shaped .working) h; second = slot (y .advancing .persistent) h }
+
+-- ---- lines
+pub header-written : (wk l : List ℕ) (s : ℕ) {h : Header} {l′ : List ℕ} → h ≡ header wk s → l′ ≡ storeLine l (headerLine s h) → l′ ≡ storeLine l (heldHeader wk s)
+header-written wk l s at e = rw (← at) e
+
+pub freed-both : (wk l : List ℕ) (s : ℕ) {g h : Header} {wk′ l′ : List ℕ} → g ≡ freeHeader → wk′ ≡ storeLine wk (headerLine s g) → h ≡ freeHeader → l′ ≡ storeLine l (headerLine s h) → Freed wk l s wk′ l′
+freed-both wk l s a p b q = record { working = rw a at p; persistent = rw b at q }
+
+-- ---- places
+pub passing-on : (n s phase next : ℕ) → s + 1 < n → place phase (s + 1) ≡ passing n s phase next
+unfolding passing
+passing-on n s phase next h = rw (lt-ltb (s + 1) n h)
+
+pub passing-over : (n s phase next : ℕ) → n ≤ s + 1 → place next 0 ≡ passing n s phase next
+unfolding passing
+passing-over n s phase next h = rw (le-ltb (s + 1) n h)
+
+module _ (p : Place) where
+  pub reclaim-on : p .phase ≡ reclaimNext → p .slot ≡ reclaimAt p
+  unfolding reclaimAt
+  reclaim-on h = rw (eq-eqb (p .phase) reclaimNext h)
+
+  pub reclaim-first : (p .phase ≡ reclaimNext → ⊥) → 0 ≡ reclaimAt p
+  unfolding reclaimAt
+  reclaim-first h = rw (ne-eqb (p .phase) reclaimNext h)
+
+  pub going-reclaim : {wk l tr : List ℕ} {z : Sizes} {c a : ℕ} → Going wk l tr z c (p .slot) → a ≡ reclaimAt p → Going wk l tr z c a
+  unfolding reclaimAt
+  going-reclaim y e =
+      ⊎-elim
+      (λ (t : eqb (p .phase) reclaimNext ≡ true). let f = rw t at e in rw f y)
+      (λ (t : eqb (p .phase) reclaimNext ≡ false). let f = rw t at e in rw f (going-first y))
+      (cases (eqb (p .phase) reclaimNext))
+
+-- ---- one line, or the tick
+module _ (z : Sizes) (wk l tr : List ℕ) where
+  pub reclaim-done : (s : ℕ) {wk′ l′ tr′ : List ℕ} {p : Place} → Freed wk l s wk′ l′ → tr′ ≡ setRetired z tr s 0 → p ≡ passing (z .n) s reclaimNext contentsNext
+      → stepped WentOn wk′ l′ tr′ p ≡ reclaimed z (store wk l tr) s
+  unfolding reclaimed
+  reclaim-done s f r p = rw (f .working, f .persistent, r, p)
+
+  pub header-done : (s : ℕ) {l′ : List ℕ} {p : Place} → l′ ≡ storeLine l (heldHeader wk s) → p ≡ passing (z .n) s contentsNext clockNext → stepped WentOn wk l′ tr p ≡ headerFlushed z (store wk l tr) s
+  unfolding headerFlushed
+  header-done s e p = rw (e, p)
+
+  pub tick-done : (c : ℕ) {wk′ l′ tr′ : List ℕ} → wk′ ≡ storeLine wk (clockLine (c + 1)) → l′ ≡ storeLine l (clockLine (c + 1)) → tr′ ≡ emptied z tr (c - 1)
+      → stepped Ticked wk′ l′ tr′ (place idle 0) ≡ ticking z (store wk l tr) c
+  unfolding ticking
+  tick-done c a b d = rw (a, b, d)
+
+  -- from a slot on
+  module _ (c p : ℕ) {f : Found} where
+    pub flush-line : {s : ℕ} {l′ : List ℕ} → f ≡ waitingFrom z tr c p → f ≡ At s → l′ ≡ storeLine l (heldContents wk (z .n) (z .w) s)
+        → stepped WentOn wk l′ tr (place headerNext s) ≡ flushFrom z (store wk l tr) c p
+    unfolding flushFrom waitingFrom contentsFlushed
+    flush-line fe a e = rw (← fe, a, e)
+
+    pub flush-tick : {x : Stepped} → f ≡ waitingFrom z tr c p → f ≡ Nothing → x ≡ ticking z (store wk l tr) c → x ≡ flushFrom z (store wk l tr) c p
+    unfolding flushFrom waitingFrom
+    flush-tick fe a e = rw (← fe, a) e
+
+    pub reclaim-one : {s : ℕ} {x : Stepped} → f ≡ dueFrom z (table wk tr) c p → f ≡ At s → x ≡ reclaimed z (store wk l tr) s → x ≡ reclaimFrom z (store wk l tr) c p
+    unfolding reclaimFrom dueFrom
+    reclaim-one fe a e = rw (← fe, a) e
+
+    pub reclaim-none : {x : Stepped} → f ≡ dueFrom z (table wk tr) c p → f ≡ Nothing → x ≡ flushFrom z (store wk l tr) c 0 → x ≡ reclaimFrom z (store wk l tr) c p
+    unfolding reclaimFrom dueFrom
+    reclaim-none fe a e = rw (← fe, a) e
+
+  -- by the phase
+  module _ (c : ℕ) (p : Place) {x : Stepped} where
+    pub step-contents : p .phase ≡ contentsNext → x ≡ flushFrom z (store wk l tr) c (p .slot) → x ≡ step z (store wk l tr) c p
+    unfolding step
+    step-contents a e = rw a e
+
+    pub step-header : p .phase ≡ headerNext → x ≡ headerFlushed z (store wk l tr) (p .slot) → x ≡ step z (store wk l tr) c p
+    unfolding step
+    step-header a e = rw a e
+
+    pub step-tick : p .phase ≡ clockNext → x ≡ ticking z (store wk l tr) c → x ≡ step z (store wk l tr) c p
+    unfolding step
+    step-tick a e = rw a e
+
+    pub step-reclaim : {a : ℕ} → (p .phase ≡ contentsNext → ⊥) → (p .phase ≡ headerNext → ⊥) → (p .phase ≡ clockNext → ⊥) → a ≡ reclaimAt p → x ≡ reclaimFrom z (store wk l tr) c a
+        → x ≡ step z (store wk l tr) c p
+    unfolding step reclaimAt
+    step-reclaim b d f g e =
+        ⊎-elim
+        (λ (y : eqb (p .phase) reclaimNext ≡ true). let h = rw y at g in rw y (rw h at e))
+        (λ (y : eqb (p .phase) reclaimNext ≡ false).
+        let h = rw y at g in
+        rw (y, ne-eqb (p .phase) contentsNext b, ne-eqb (p .phase) headerNext d, ne-eqb (p .phase) clockNext f) (rw h at e))
+        (cases (eqb (p .phase) reclaimNext))
+
+pub ruleset dues = (froms, slot-note, slot-head, retired-none, retired-due, payload-young, payload-kind, due-payload, due-delete, due-other, due-start, due-slot, due-is)
+
+pub ruleset waits = (pairs, waiting-start, waiting-few, waiting-note, waiting-is)
+
+pub ruleset lines = (slots-first, slots-second, header-written, freed-both, passing-on, passing-over)
+
+pub ruleset steps = (requires-laws, going-due, going-wait, reclaim-done, header-done, tick-done, flush-line, flush-tick, reclaim-one, reclaim-none)
+
+pub ruleset stepping = (going-advancing, going-reclaim, reclaim-on, reclaim-first, step-contents, step-header, step-tick, step-reclaim)

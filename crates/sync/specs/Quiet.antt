@@ -1,0 +1,191 @@
+-- A store on which a sync is underway: with no operation open each of its advance calls is accepted, and leaves such a store.
+use Prim.Native.Nat.{ℕ, suc, _+_, _-_, _≤_, _<_}
+use mathlib.Core.Path.{_≡_, refl, _∙_}
+use mathlib.Core.Bool.{Bool, true, false, not, _&&_}
+use mathlib.Core.List.{List}
+use lib.ListN.{length}
+use lib.Dec.{ltb, eqb}
+use borrow.Author.Tests.{le-leb, lt-ltb, eq-eqb, ne-eqb, eqb-true, ltb-false, not-false}
+use native.Mathlib.Omega.{arith}
+use Rattle.search.specs.Bools.{and-left, and-right, and-both}
+use Rattle.search.specs.Some.{anyOf, some-none, none-some, at-every}
+use Rattle.reply.specs.declared.Check.the-variants.{Accepted}
+use Rattle.reply.specs.declared.Refusal.the-variants.{BadSizes, BadClock, StillOpen, LastEpoch}
+use Rattle.reply.specs.Refusals.{refuse, not-refused, both-accepted}
+use Rattle.image.specs.Layout.{mostNumber, slotsOf, clockOf, shapeOk, clockOk}
+use Rattle.transient.specs.declared.sizes.Sizes.{Sizes}
+use Rattle.transient.specs.Layout.{note, slotsAt, lastAt, nextUidAt, placeAt, openEpoch, threadsOk}
+use Rattle.transient.specs.Laws.{place-long, place-noted, place-last, place-uid, place-opens, slot-set}
+use Rattle.transient.specs.Store.{Store, tableOf, sizesOf}
+use Rattle.transient.specs.Entry.{imagesFit, notesFit, opensOk, entryCheck}
+use Rattle.transient.specs.Requires.{sizesFit, openOk, clocksFit, EnteredWith, notes-after}
+use Rattle.transient.specs.Passed.{entry-with}
+use Rattle.step.specs.declared.Advance.the-variants.{WentOn, Ticked}
+use Rattle.step.specs.Step.{Stepped}
+use Rattle.step.specs.Kept.{Alike, Steady, Clocked, on, tick}
+use Rattle.advance.specs.Advance.{noted, advance}
+use Rattle.advance.specs.Stages.{underway, openBelow, heldCheck, advanceSized, advance-is, notedPlace}
+use Rattle.advance.specs.Ways.{nextStep}
+use Rattle.advance.specs.Left.{step-goes}
+use Rattle.advance.specs.Keeps.{next-kept}
+use Rattle.sync.specs.Sync.{syncCheck}
+
+-- a store on which a sync is underway: it passes refusals 1 and 2, nothing is open, and the clock has room for so many ticks
+pub record Quiet (ticks : ℕ) (st : Store) : Type 0 where
+  pub entry : entryCheck st ≡ Accepted
+  pub none-open : (u : ℕ) → u < sizesOf (tableOf st) .t → openEpoch (st .transient) u ≡ 0
+  pub room : clockOf (st .working) + ticks ≤ mostNumber
+
+-- the two tests of the entry check
+record Passes (st : Store) : Type 0 where
+  sizes : sizesFit (st .working) (st .persistent) (st .transient) ≡ true
+  clocks : clocksFit (st .working) (st .persistent) (st .transient) (sizesOf (tableOf st) .t) ≡ true
+
+entry-passes : (st : Store) → entryCheck st ≡ Accepted → Passes st
+unfolding entryCheck sizesFit clocksFit
+entry-passes st a =
+    let fit = sizesFit (st .working) (st .persistent) (st .transient) in
+    let clocks = clocksFit (st .working) (st .persistent) (st .transient) (sizesOf (tableOf st) .t) in
+    let first = not-refused (not fit) BadSizes (refuse (not clocks) BadClock Accepted) a in
+    record { sizes = not-false fit (first .0); clocks = not-false clocks (not-refused (not clocks) BadClock Accepted (first .1) .0) }
+
+passes-entry : {st : Store} → Passes st → entryCheck st ≡ Accepted
+unfolding entryCheck sizesFit clocksFit
+passes-entry y = rw (y .sizes, y .clocks)
+
+pub images-same : {wk l wk′ l′ : List ℕ} → Alike wk wk′ → Alike l l′ → imagesFit wk′ l′ ≡ imagesFit wk l
+unfolding imagesFit shapeOk
+images-same a b = rw (a .long, a .slots, a .width, b .long, b .slots, b .width)
+
+-- clocks that agree, in range, with nothing open
+clocks-fit : (wk l tr : List ℕ) (t c : ℕ) → clockOf wk ≡ c → clockOf l ≡ c → 2 ≤ c → c ≤ mostNumber → ((u : ℕ) → u < t → openEpoch tr u ≡ 0) → clocksFit wk l tr t ≡ true
+unfolding clocksFit clockOk opensOk openOk
+clocks-fit wk l tr t c a b lo hi none =
+    rw (a, b, le-leb 2 c lo, le-leb c mostNumber hi, eq-eqb c c refl)
+    (at-every (λ u. openOk c (openEpoch tr u)) t (λ u h. rw (none u h)))
+
+clocks-agree : (wk l tr : List ℕ) (t : ℕ) → clocksFit wk l tr t ≡ true → clockOf l ≡ clockOf wk
+unfolding clocksFit
+clocks-agree wk l tr t e =
+    let k = clockOk (clockOf wk) in
+    let q = eqb (clockOf l) (clockOf wk) in
+    eqb-true _ _ (and-left q _ (and-right k _ e))
+
+-- a step noted: refusals 1 and 2 pass again
+module _ (st : Store) (x : Stepped) (ok : entryCheck st ≡ Accepted) (s : Steady (sizesOf (tableOf st)) st x) (within : x .place .slot < slotsOf (st .working)) (c : ℕ)
+    (clock-w : clockOf (x .store .working) ≡ c) (clock-l : clockOf (x .store .persistent) ≡ c) (lo : 2 ≤ c) (none : (u : ℕ) → u < sizesOf (tableOf st) .t → openEpoch (st .transient) u ≡ 0) where
+  abbrev tr : List ℕ
+  tr = noted x .store .transient
+
+  long : length tr ≡ length (st .transient)
+  long = place-long (x .store .transient) (sizesOf (tableOf st)) _ _ ∙ s .notes .head .long
+
+  threads-is : sizesOf (tableOf (noted x .store)) .t ≡ sizesOf (tableOf st) .t
+  unfolding sizesOf
+  threads-is = rw (long, s .working .slots)
+
+  -- the place alone was written
+  slots-is : note slotsAt tr ≡ note slotsAt (st .transient)
+  slots-is = place-noted (x .store .transient) (sizesOf (tableOf st)) _ _ ∙ s .notes .noted
+
+  last-is : note lastAt tr ≡ note lastAt (st .transient)
+  last-is = place-last (x .store .transient) (sizesOf (tableOf st)) _ _ ∙ s .notes .last
+
+  uid-is : note nextUidAt tr ≡ note nextUidAt (st .transient)
+  uid-is = place-uid (x .store .transient) (sizesOf (tableOf st)) _ _ ∙ s .notes .uid
+
+  place-is : note placeAt tr ≡ x .place .slot
+  place-is =
+      let y = entry-with (st .working) (st .persistent) (st .transient) ok .entered .shaped .notes in
+      slot-set (notes-after (s .notes .head .long) y) (x .place .phase) (x .place .slot)
+
+  none-after : (u : ℕ) → u < sizesOf (tableOf (noted x .store)) .t → openEpoch tr u ≡ 0
+  none-after u h =
+      let k : u < sizesOf (tableOf st) .t = rw threads-is at h in
+      place-opens (x .store .transient) (sizesOf (tableOf st)) _ _ u ∙ s .notes .head .opens u k ∙ none u k
+
+  sizes-after : sizesFit (x .store .working) (x .store .persistent) tr ≡ true
+  unfolding sizesFit notesFit
+  sizes-after =
+      let n = slotsOf (st .working) in
+      let fit = entry-passes st ok .sizes in
+      let images = imagesFit (st .working) (st .persistent) in
+      let threaded = threadsOk (length (st .transient)) n in
+      let rest = and-right images _ fit in
+      let notes = and-right threaded _ rest in
+      let slots = eqb (note slotsAt (st .transient)) n in
+      let more = and-right slots _ notes in
+      let last = ltb (note lastAt (st .transient)) n in
+      let placed = ltb (note placeAt (st .transient)) n in
+      rw (images-same (s .working) (s .persistent), long, s .working .slots, slots-is, last-is, place-is, uid-is)
+      (and-both (and-left images _ fit) (and-both (and-left threaded _ rest)
+      (and-both (and-left slots _ notes) (and-both (and-left last _ more) (and-both (lt-ltb _ _ within) (and-right placed _ (and-right last _ more)))))))
+
+  noted-quiet : (ticks : ℕ) → c + ticks ≤ mostNumber → Quiet ticks (noted x .store)
+  noted-quiet ticks h =
+      record {
+        entry = passes-entry (record { sizes = sizes-after; clocks = clocks-fit (x .store .working) (x .store .persistent) tr _ c clock-w clock-l lo (omega arith) none-after });
+        none-open = none-after;
+        room = omega (arith, clock-w);
+      }
+
+-- ---- an advance call of a sync
+pub data Onward (k : ℕ) (st : Store) : Type 0 where
+  went : advance st .reply ≡ WentOn → Quiet (suc k) (advance st .store) → Onward k st
+  ticked : advance st .reply ≡ Ticked → Quiet k (advance st .store) → Onward k st
+
+-- 14 and 15 pass
+quiet-check : (z : Sizes) (tr : List ℕ) (c : ℕ) → 2 ≤ c → c < mostNumber → ((u : ℕ) → u < z .t → openEpoch tr u ≡ 0) → heldCheck z tr c ≡ Accepted
+unfolding heldCheck openBelow
+quiet-check z tr c lo hi none =
+    let below = none-some (λ u. eqb (openEpoch tr u + 1) c) (z .t) (λ u h. ne-eqb _ c (λ q. omega (arith, none u h))) in
+    rw (below, ne-eqb c mostNumber (λ q. omega arith)) (never-held (underway tr))
+  where
+    never-held : (b : Bool) → refuse (not b && false) StillOpen Accepted ≡ Accepted
+    never-held true = refl
+    never-held false = refl
+
+module _ (k : ℕ) (st : Store) (q : Quiet (suc k) st) where
+  abbrev before : EnteredWith (st .working) (st .persistent) (st .transient) (sizesOf (tableOf st))
+  before = entry-with (st .working) (st .persistent) (st .transient) (q .entry)
+
+  next-is : advance st ≡ noted (nextStep st)
+  unfolding advanceSized nextStep
+  next-is = rw (advance-is st, q .entry, quiet-check (sizesOf (tableOf st)) (st .transient) (clockOf (st .working)) (before .entered .clock-lo) (omega (arith, q .room)) (q .none-open))
+
+  same : clockOf (st .persistent) ≡ clockOf (st .working)
+  same = clocks-agree (st .working) (st .persistent) (st .transient) _ (entry-passes st (q .entry) .clocks)
+
+  within : nextStep st .place .slot < slotsOf (st .working)
+  unfolding nextStep sizesOf
+  within = step-goes (sizesOf (tableOf st)) st _ (notedPlace (st .transient)) (before .entered .place) .within
+
+  after : (d ticks : ℕ) → clockOf (nextStep st .store .working) ≡ d → clockOf (nextStep st .store .persistent) ≡ d → 2 ≤ d → d + ticks ≤ mostNumber → Quiet ticks (advance st .store)
+  after d ticks a b lo hi = rw next-is (noted-quiet st (nextStep st) (q .entry) (next-kept st (q .entry) .steady) within d a b lo (q .none-open) ticks hi)
+
+  onward-from : Clocked st (clockOf (st .working)) (nextStep st) → Onward k st
+  onward-from (on e a b) = went (rw next-is e) (after (clockOf (st .working)) (suc k) a (b ∙ same) (before .entered .clock-lo) (q .room))
+  onward-from (tick e a b) = ticked (rw next-is e) (after (clockOf (st .working) + 1) k a b (omega (arith, before .entered .clock-lo)) (omega (arith, q .room)))
+
+  pub advance-quiet : Onward k st
+  advance-quiet = onward-from (next-kept st (q .entry) .clocked)
+
+-- the place is one of the table
+pub quiet-place : {ticks : ℕ} {st : Store} → Quiet ticks st → note placeAt (st .transient) < slotsOf (st .working)
+unfolding sizesOf
+quiet-place {st = st} q = entry-with (st .working) (st .persistent) (st .transient) (q .entry) .entered .place
+
+-- refusals 1, 2, 14 and 15 passed
+pub check-quiet : (st : Store) → syncCheck st ≡ Accepted → Quiet 2 st
+unfolding syncCheck
+check-quiet st a =
+    let both = both-accepted (entryCheck st) _ a in
+    let open-in : ℕ → Bool = λ u. not (eqb (openEpoch (st .transient) u) 0) in
+    let high = ltb (mostNumber - 2) (clockOf (st .working)) in
+    let first = not-refused (anyOf open-in (sizesOf (tableOf st) .t)) StillOpen (refuse high LastEpoch Accepted) (both .1) in
+    let top = ltb-false (mostNumber - 2) (clockOf (st .working)) (not-refused high LastEpoch Accepted (first .1) .0) in
+    record {
+      entry = both .0;
+      none-open = λ u h. eqb-true _ 0 (not-false _ (some-none open-in (sizesOf (tableOf st) .t) (first .0) u h));
+      room = omega arith;
+    }

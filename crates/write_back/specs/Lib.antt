@@ -1,0 +1,5 @@
+pub mod WriteBack
+pub mod Stages
+pub mod Ways
+pub mod Exits
+pub mod Keeps
