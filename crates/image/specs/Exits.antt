@@ -5,7 +5,7 @@ use mathlib.Core.List.{List}
 use mathlib.Core.Bool.{Bool, true, false}
 use mathlib.Core.Logic.{⊎-elim}
 use lib.ListN.{length, getD, set, take, drop}
-use lib.Dec.{eqb}
+use lib.Dec.{ltb, eqb}
 use borrow.Author.Tests.{eq-eqb, ne-eqb}
 use native.Mathlib.Omega.{arith}
 use mir.Val.{Fits}
@@ -13,9 +13,9 @@ use mir.Syntax.{w64}
 use Rattle.search.specs.Bools.{cases, tests}
 use Rattle.image.specs.declared.header.Header.{Header}
 use Rattle.image.specs.declared.name.Name.{Name}
-use Rattle.image.specs.Layout.{headerAt, contentsAt, imageWords, headerOf, header, contents, keyAt, slotsOf, widthOf, sizesOk, shapeOk}
+use Rattle.image.specs.Layout.{mostNumber, queueBoard, headerAt, contentsAt, imageWords, headerOf, header, contents, keyAt, slotsOf, widthOf, sizesOk, shapeOk}
 use Rattle.image.specs.Line.{headerLine, contentsLine, clockLine, stored, storeLine}
-use Rattle.image.specs.Name.{nameOf, nameAt, sameName}
+use Rattle.image.specs.Name.{nameOf, nameAt, sameName, misnamed}
 use Rattle.image.specs.Requires.{kindAt, epochAt, uidAt, boardAt, InRange, Slot, SlotOf, Slots, SlotLine, slot, header-fits, slot-of}
 use Rattle.image.specs.Bytes.{wordsOf, Byte, InWords, Decodes, words-at}
 use Rattle.image.specs.Laws.{area-top, sizes-true, shaped, length-contents, part-is}
@@ -82,6 +82,19 @@ module _ (l : List ℕ) (n w s : ℕ) (name : Name) {k : ℕ} (is : k ≡ keyAt 
   unfolding sameName nameAt keyAt
   named-other q = rw (← is, ne-eqb k (name .key) q)
 
+module _ (name : Name) where
+  pub bad-zero : name .key ≡ 0 → true ≡ misnamed name
+  unfolding misnamed
+  bad-zero k = rw (eq-eqb (name .key) 0 k)
+
+  pub bad-entry : (name .key ≡ 0 → ⊥) → name .board ≡ queueBoard → ltb mostNumber (name .key) ≡ misnamed name
+  unfolding misnamed
+  bad-entry k b = rw (ne-eqb (name .key) 0 k, eq-eqb (name .board) queueBoard b)
+
+  pub bad-none : (name .key ≡ 0 → ⊥) → (name .board ≡ queueBoard → ⊥) → false ≡ misnamed name
+  unfolding misnamed
+  bad-none k b = rw (ne-eqb (name .key) 0 k, ne-eqb (name .board) queueBoard b)
+
 -- ---- the clock
 pub clock-stored : (l : List ℕ) (c : ℕ) → set l 2 c ≡ storeLine l (clockLine c)
 unfolding storeLine stored
@@ -118,4 +131,4 @@ word-made bytes k i z a b c d = rw (a .same, b .same, c .same, d .same) (words-a
 pub in-words : {bytes words : List ℕ} {k i : ℕ} → Decodes bytes words k → i < k → InWords bytes k i
 in-words z h = record { whole = z .whole; below = h }
 
-pub ruleset laws = (tests, storings, slot, header-fits, slot-of, header-is, header-stored, contents-fits, contents-top, key-in, key-is, line-room, line-slot, contents-stored, part-end, part-slot, part-line, part-copied, name-made, named-board, named-other, clock-stored, area-fits, whole-fits, sizes-true, shape-short, shape-sizes, shape-long, in-words, word-made)
+pub ruleset laws = (tests, storings, slot, header-fits, slot-of, header-is, header-stored, contents-fits, contents-top, key-in, key-is, line-room, line-slot, contents-stored, part-end, part-slot, part-line, part-copied, name-made, named-board, named-other, bad-zero, bad-entry, bad-none, clock-stored, area-fits, whole-fits, sizes-true, shape-short, shape-sizes, shape-long, in-words, word-made)

@@ -6,7 +6,7 @@ use lib.ListN.{length, getD, take, drop}
 use lib.Dec.{leb, eqb}
 use Rattle.image.specs.declared.header.Header.{Header}
 
--- ---- the largest N, and the largest clock and uid
+-- ---- the largest N, and the largest clock, uid and order number
 abbrev pub mostSlots : ℕ
 mostSlots = 1024
 
@@ -35,9 +35,12 @@ imageWords n w = 3 + headerWords * n + w * n
 abbrev pub headerOf : ℕ → ℕ → ℕ → ℕ → Header
 headerOf k e u b = record { kind = k; epoch = e; uid = u; board = b }
 
--- "the board, 1 for jobs"
+-- "the board, 1 for jobs"; 02, No. 3: "a queue as board 2"
 abbrev pub jobsBoard : ℕ
 jobsBoard = 1
+
+abbrev pub queueBoard : ℕ
+queueBoard = 2
 
 -- "Kinds: 0 free, 1 ALLOC, 2 UPDATE, 3 DELETE (an anti-payload)." "A free mark is now four zeros"
 abbrev pub freeHeader : Header

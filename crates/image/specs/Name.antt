@@ -1,19 +1,24 @@
--- The name of a job: one definition, and one test with its laws.
-use Prim.Native.Nat.{ℕ}
+-- The name of a job or of a queue's entry: one definition, and one test with its laws.
+use Prim.Native.Nat.{ℕ, _≤_}
 use mathlib.Core.Path.{_≡_, refl, sym, ap, _∙_}
 use mathlib.Core.Logic.{_≢_, inl, inr}
-use mathlib.Core.Bool.{Bool, true, false, _&&_}
+use mathlib.Core.Bool.{Bool, true, false, _&&_, _||_}
 use mathlib.Core.List.{List}
 use lib.ListN.{getD}
-use lib.Dec.{eqb}
-use borrow.Author.Tests.{eqb-true, eqb-false, eq-eqb}
-use Rattle.search.specs.Bools.{cases, never, refuted, and-left, and-right, and-both}
+use lib.Dec.{ltb, eqb}
+use borrow.Author.Tests.{eqb-true, eqb-false, eq-eqb, ne-eqb, ltb-true, ltb-false}
+use native.Mathlib.Omega.{arith}
+use Rattle.search.specs.Bools.{cases, never, refuted, and-left, and-right, and-both, or-left, or-right}
 use Rattle.image.specs.declared.name.Name.{Name}
-use Rattle.image.specs.Layout.{jobsBoard, contentsAt, header, keyAt}
+use Rattle.image.specs.Layout.{mostNumber, jobsBoard, queueBoard, contentsAt, header, keyAt}
 
 -- 02, No. 2: "Keys are unique within a board": a name is a board and a key
 abbrev pub jobName : ℕ → Name
 jobName key = record { board = jobsBoard; key = key }
+
+-- 02, No. 3: "The key is an order number"
+abbrev pub entryName : ℕ → Name
+entryName order = record { board = queueBoard; key = order }
 
 -- the name of what a slot holds
 unfoldable pub nameAt : List ℕ → ℕ → ℕ → ℕ → Name
@@ -22,11 +27,13 @@ nameAt l n w s = record { board = header l s .board; key = getD l (contentsAt n 
 unfoldable pub sameName : Name → Name → Bool
 sameName a b = eqb (a .key) (b .key) && eqb (a .board) (b .board)
 
-unfoldable pub unnamed : Name → Bool
-unnamed name = eqb (name .key) 0
+-- what condition 3 does not let survive: "a survivor with key 0", "a board 2 survivor with key above 4,000,000,000"
+unfoldable pub misnamed : Name → Bool
+misnamed name = eqb (name .key) 0 || (eqb (name .board) queueBoard && ltb mostNumber (name .key))
 
-abbrev pub Named : Name → Type 0
-Named name = name .key ≢ 0
+pub record Named (name : Name) : Type 0 where
+  pub some : name .key ≢ 0
+  pub top : name .board ≡ queueBoard → name .key ≤ mostNumber
 
 abbrev pub nameOf : ℕ → ℕ → Name
 nameOf b k = record { board = b; key = k }
@@ -51,13 +58,23 @@ name-same a b e = and-both (eq-eqb (a .key) (b .key) (key-same e)) (eq-eqb (a .b
 pub name-other : (a b : Name) → a ≢ b → sameName a b ≡ false
 name-other a b e = refuted (sameName a b) (λ t. e (same-name a b t))
 
-pub unnamed-true : (a : Name) → unnamed a ≡ true → a .key ≡ 0
-unfolding unnamed
-unnamed-true a e = eqb-true (a .key) 0 e
+pub misnamed-false : (a : Name) → misnamed a ≡ false → Named a
+unfolding misnamed
+misnamed-false a e =
+    let k = eqb (a .key) 0 in
+    record {
+      some = eqb-false (a .key) 0 (or-left k _ e);
+      top = λ q. ltb-false mostNumber (a .key) (rw (eq-eqb (a .board) queueBoard q) at (or-right k _ e));
+    }
 
-pub unnamed-false : (a : Name) → unnamed a ≡ false → Named a
-unfolding unnamed
-unnamed-false a e = eqb-false (a .key) 0 e
+pub named-says : (a : Name) → Named a → misnamed a ≡ false
+unfolding misnamed
+named-says a n = rw (ne-eqb (a .key) 0 (n .some)) (refuted (eqb (a .board) queueBoard && ltb mostNumber (a .key)) high)
+  where
+    high : eqb (a .board) queueBoard && ltb mostNumber (a .key) ≡ true → ⊥
+    high e =
+        let q = eqb (a .board) queueBoard in
+        omega (arith, n .top (eqb-true (a .board) queueBoard (and-left q _ e)), ltb-true mostNumber (a .key) (and-right q _ e))
 
 pub name-dec : Discrete Name
 name-dec a b = elim (cases (sameName a b)) [

@@ -25,6 +25,9 @@ impl Header {
     // The board of jobs.
     pub const JOBS: u32 = 1;
 
+    // The board of the hand-over queue.
+    pub const QUEUE: u32 = 2;
+
     // How many words a header has.
     pub const WORDS: usize = 4;
 

@@ -10,7 +10,7 @@ ghost use Rattle.image.specs.Requires.{InRange};
 // The largest N.
 pub const MOST_SLOTS: usize = 1024;
 
-// The largest clock, and the largest uid.
+// The largest clock, uid and order number.
 pub const MOST_NUMBER: u32 = 4000000000;
 
 // A word as a size.

@@ -4,11 +4,11 @@ use mathlib.Core.Path.{_≡_, refl}
 use native.Mathlib.Omega.{arith}
 use mathlib.Core.Bool.{Bool, true, false, cond}
 use Rattle.reply.specs.declared.Refusal.{Refusal}
-use Rattle.reply.specs.declared.Refusal.the-variants.{BadSizes, BadClock, BadSlot, Duplicate, NoThread, AlreadyOpen, NotOpen, BadArgument, Newer, NoJob, JobExists, NoUid, Full, StillOpen, LastEpoch, NoLine}
+use Rattle.reply.specs.declared.Refusal.the-variants.{BadSizes, BadClock, BadSlot, Duplicate, NoThread, AlreadyOpen, NotOpen, BadArgument, Newer, NoJob, JobExists, NoUid, Full, StillOpen, LastEpoch, NoLine, QueueEmpty}
 use Rattle.reply.specs.declared.Check.{Check}
 use Rattle.reply.specs.declared.Check.the-variants.{Accepted, Refused}
 
--- 01, "Where each call can decline": the column "No."
+-- 01, "Where each call can decline": the column "No."; 02, No. 3: "17 for take and look on an empty queue"
 abbrev pub refusalNumber : Refusal → ℕ
 refusalNumber BadSizes = 1
 refusalNumber BadClock = 2
@@ -26,6 +26,11 @@ refusalNumber Full = 13
 refusalNumber StillOpen = 14
 refusalNumber LastEpoch = 15
 refusalNumber NoLine = 16
+refusalNumber QueueEmpty = 17
+
+-- a case of the enum, told apart
+pub number-of : {r q : Refusal} {k : ℕ} → r ≡ q → k ≡ refusalNumber q → k ≡ refusalNumber r
+number-of e h = rw e h
 
 -- 01: "Each comes back as one 64-bit number, or 4,294,967,296 plus the number of the recovery refusal."
 abbrev pub declinedNumber : Refusal → ℕ

@@ -17,10 +17,11 @@ pub enum Refusal {
     NotOpen,
     // key 0, or a value of a wrong length
     BadArgument,
-    // a later epoch has this key already
+    // a later epoch has this key, or an entry of the queue, already
     Newer,
     NoJob,
     JobExists,
+    // no uid or no order number is left
     NoUid,
     Full,
     // an operation is open that must end first
@@ -28,6 +29,7 @@ pub enum Refusal {
     // the clock is at its end
     LastEpoch,
     NoLine,
+    QueueEmpty,
 }
 
 pub enum Check {
@@ -56,6 +58,7 @@ pub fn number(r: Refusal) -> u32
         Refusal::StillOpen => 14,
         Refusal::LastEpoch => 15,
         Refusal::NoLine => 16,
+        Refusal::QueueEmpty => 17,
     }
 }
 

@@ -127,6 +127,13 @@ sought-hit {p} {n} {i} s h e f = s .same ∙ first-hit p i n h (sym e ∙ f)
 pub sought-end : {p : ℕ → Bool} {n i : ℕ} → Sought p n i → n ≤ i → first p 0 n ≡ n
 sought-end {p} {n} {i} s h = s .same ∙ first-end p i n h ∙ (omega arith)
 
+-- a loop goes on past indices that fail
+pub sought-pass : {p : ℕ → Bool} {n i : ℕ} (d : ℕ) → Sought p n i → i + d ≤ n → ((j : ℕ) → i ≤ j → j < i + d → p j ≡ false) → Sought p n (i + d)
+sought-pass {p} {n} {i} zero s h f = let e : i + 0 ≡ i = omega arith in rw e s
+sought-pass {p} {n} {i} (suc d) s h f =
+    let e : i + suc d ≡ i + d + 1 = omega arith in
+    rw e (sought-next (sought-pass d s (omega arith) (λ j a b. f j a (omega arith))) (omega arith) refl (f (i + d) (omega arith) (omega arith)))
+
 -- a loop's two answers
 pub found-hit : {p : ℕ → Bool} {n i : ℕ} {r : Bool} → Sought p n i → i < n → r ≡ p i → r ≡ true → At i ≡ firstOf p n
 found-hit {p} {n} {i} s h e f = rw (first-of p n, sought-hit s h e f, lt-ltb i n h)
@@ -179,5 +186,47 @@ firstOf-same p q (suc n) h = rw (firstOf-same p q n (λ j l. h j (omega arith)),
 pub found-cases : (f : Found) → ((s : ℕ) × (f ≡ At s)) ⊎ (f ≡ Nothing)
 found-cases (At s) = inl (s, refl)
 found-cases Nothing = inr refl
+
+-- ---- the first from an index on: the invariant of a loop that has passed those up to i, and its answers
+pub record Seeking (p : ℕ → Bool) (n from i : ℕ) : Type 0 where
+  pub low : i ≤ n
+  pub same : first p from (n - from) ≡ first p i (n - i)
+
+pub seeking-start : (p : ℕ → Bool) {n from : ℕ} → from ≤ n → Seeking p n from from
+seeking-start p h = record { low = h; same = refl }
+
+module _ {p : ℕ → Bool} {n from i : ℕ} {r : Bool} (s : Seeking p n from i) where
+  pub seeking-next : i < n → r ≡ p i → r ≡ false → Seeking p n from (i + 1)
+  seeking-next h e f = record { low = omega arith; same = s .same ∙ first-miss p i n h (sym e ∙ f) }
+
+  pub seeking-hit : i < n → r ≡ p i → r ≡ true → i ≡ first p from (n - from)
+  seeking-hit h e f = sym (s .same ∙ first-hit p i n h (sym e ∙ f))
+
+pub seeking-end : {p : ℕ → Bool} {n from i : ℕ} → Seeking p n from i → n ≤ i → i ≡ first p from (n - from)
+seeking-end {p} {n} {from} {i} s h = sym (s .same ∙ first-end p i n h)
+
+-- what it says: an index from there on, those before it fail, and it passes unless it is n
+pub record Next (p : ℕ → Bool) (n from s : ℕ) : Type 0 where
+  pub above : from ≤ s
+  pub top : s ≤ n
+  pub before : (j : ℕ) → from ≤ j → j < s → p j ≡ false
+  pub passes : s < n → p s ≡ true
+
+first-low : (p : ℕ → Bool) (k i : ℕ) → i ≤ first p i k
+unfolding first
+first-low p zero i = omega arith
+first-low p (suc k) i = ⊎-elim (λ t. rw t (omega arith)) (λ f. rw f (omega (arith, first-low p k (i + 1)))) (cases (p i))
+
+pub first-next : (p : ℕ → Bool) {n from s : ℕ} → from ≤ n → s ≡ first p from (n - from) → Next p n from s
+first-next p {n} {from} h e =
+    let k = n - from in
+    rw e (record {
+      above = first-low p k from;
+      top = omega (arith, first-top p k from);
+      before = λ j l b. first-before p k from j l b;
+      passes = λ b. first-at p k from (omega arith);
+    })
+
+pub ruleset seeks = (seeking-start, seeking-next, seeking-hit, seeking-end)
 
 pub ruleset loops = (sought-start, sought-next, found-hit, found-end)

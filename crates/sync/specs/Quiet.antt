@@ -14,8 +14,8 @@ use Rattle.reply.specs.declared.Refusal.the-variants.{BadSizes, BadClock, Still
 use Rattle.reply.specs.Refusals.{refuse, not-refused, both-accepted}
 use Rattle.image.specs.Layout.{mostNumber, slotsOf, clockOf, shapeOk, clockOk}
 use Rattle.transient.specs.declared.sizes.Sizes.{Sizes}
-use Rattle.transient.specs.Layout.{note, slotsAt, lastAt, nextUidAt, placeAt, openEpoch, threadsOk}
-use Rattle.transient.specs.Laws.{place-long, place-noted, place-last, place-uid, place-opens, slot-set}
+use Rattle.transient.specs.Layout.{note, slotsAt, lastAt, nextUidAt, nextOrderAt, placeAt, openEpoch, threadsOk}
+use Rattle.transient.specs.Laws.{place-long, place-noted, place-last, place-uid, place-order, place-opens, slot-set}
 use Rattle.transient.specs.Store.{Store, tableOf, sizesOf}
 use Rattle.transient.specs.Entry.{imagesFit, notesFit, opensOk, entryCheck}
 use Rattle.transient.specs.Requires.{sizesFit, openOk, clocksFit, EnteredWith, notes-after}
@@ -94,6 +94,9 @@ module _ (st : Store) (x : Stepped) (ok : entryCheck st ≡ Accepted) (s : Stead
   uid-is : note nextUidAt tr ≡ note nextUidAt (st .transient)
   uid-is = place-uid (x .store .transient) (sizesOf (tableOf st)) _ _ ∙ s .notes .uid
 
+  order-is : note nextOrderAt tr ≡ note nextOrderAt (st .transient)
+  order-is = place-order (x .store .transient) (sizesOf (tableOf st)) _ _ ∙ s .notes .order
+
   place-is : note placeAt tr ≡ x .place .slot
   place-is =
       let y = entry-with (st .working) (st .persistent) (st .transient) ok .entered .shaped .notes in
@@ -117,7 +120,7 @@ module _ (st : Store) (x : Stepped) (ok : entryCheck st ≡ Accepted) (s : Stead
       let more = and-right slots _ notes in
       let last = ltb (note lastAt (st .transient)) n in
       let placed = ltb (note placeAt (st .transient)) n in
-      rw (images-same (s .working) (s .persistent), long, s .working .slots, slots-is, last-is, place-is, uid-is)
+      rw (images-same (s .working) (s .persistent), long, s .working .slots, slots-is, last-is, place-is, uid-is, order-is)
       (and-both (and-left images _ fit) (and-both (and-left threaded _ rest)
       (and-both (and-left slots _ notes) (and-both (and-left last _ more) (and-both (lt-ltb _ _ within) (and-right placed _ (and-right last _ more)))))))
 

@@ -2,7 +2,7 @@
 use Prim.Native.Nat.{ℕ}
 use mathlib.Core.List.{List}
 use Rattle.reply.specs.declared.Check.{Check}
-use Rattle.reply.specs.declared.Check.the-variants.{Refused}
+use Rattle.reply.specs.declared.Check.the-variants.{Accepted, Refused}
 use Rattle.reply.specs.declared.Refusal.{Refusal}
 use Rattle.reply.specs.Refusals.{refusalNumber, byCheck}
 use Rattle.transient.specs.declared.sizes.Sizes.{Sizes}
@@ -19,6 +19,9 @@ changed r wk tr = record { reply = r; table = table wk tr }
 -- "Every refusal leaves both images and the notes unchanged"
 abbrev pub refused : Refusal → Table → Changed
 refused r tb = record { reply = Refused r; table = tb }
+
+abbrev pub accepted : Table → Changed
+accepted tb = record { reply = Accepted; table = tb }
 
 -- a call: refusals 1 and 2, then its own part, which is told the sizes
 abbrev pub onStore : Store → (Sizes → Table → Changed) → Outcome Check

@@ -19,9 +19,9 @@ use Rattle.image.specs.Laws.{shaped}
 use Rattle.image.specs.Storing.{storings}
 use Rattle.transient.specs.declared.sizes.Sizes.{Sizes}
 use Rattle.transient.specs.Store.{store, table, sizesOf}
-use Rattle.transient.specs.Layout.{slotsAt, lastAt, nextUidAt, phaseAt, placeAt, headWords, openAt, retiredAt, listBase, waitingAt, threadsOf, threadsOk, note, openEpoch, isWaiting, setNote, setOpen, setRetired, setWaiting, setPlace, emptied, blank}
-use Rattle.transient.specs.Entry.{imagesFit, notesFit, opensOk, entryCheck}
-use Rattle.transient.specs.Requires.{Based, ThreadRoom, Notes, Sizable, Paired, sizesAlike, uidOk, sizesFit, openOk, clocksFit, Threads, Fitting, requires-laws}
+use Rattle.transient.specs.Layout.{slotsAt, lastAt, nextUidAt, nextOrderAt, phaseAt, placeAt, headWords, openAt, retiredAt, listBase, waitingAt, threadsOf, threadsOk, note, openEpoch, isWaiting, setNote, setOpen, setRetired, setWaiting, setPlace, emptied, blank}
+use Rattle.transient.specs.Entry.{imagesFit, nextOk, notesFit, opensOk, entryCheck}
+use Rattle.transient.specs.Requires.{Based, ThreadRoom, Notes, Sizable, Paired, sizesAlike, sizesFit, openOk, clocksFit, Threads, Fitting, requires-laws}
 use Rattle.transient.specs.Laws.{threads-head}
 use Rattle.transient.specs.Clearing.{clearings}
 use Rattle.transient.specs.Passed.{sizing, sizes-t}
@@ -52,9 +52,10 @@ pub sizes-made : (wk tr : List ℕ) {n w t : ℕ} → n ≡ slotsOf wk → w ≡
 unfolding sizesOf
 sizes-made wk tr a b c = rw (c, a, b)
 
-pub blank-set : (l : List ℕ) {a : List ℕ} (n uid : ℕ) → a ≡ replicate (length l) 0 → set (set (set a slotsAt n) lastAt (n - 1)) nextUidAt uid ≡ blank (length l) n uid
+pub blank-set : (l : List ℕ) {a : List ℕ} (n uid order : ℕ) → a ≡ replicate (length l) 0
+    → set (set (set (set a slotsAt n) lastAt (n - 1)) nextUidAt uid) nextOrderAt order ≡ blank (length l) n uid order
 unfolding blank
-blank-set l n uid e = rw e
+blank-set l n uid order e = rw e
 
 -- ---- writers
 pub based-even : (n e : ℕ) → e % 2 ≡ 0 → Based n e 0
@@ -73,6 +74,10 @@ module _ (tr : List ℕ) where
   pub uid-stored : (u : ℕ) → set tr nextUidAt u ≡ setNote nextUidAt tr u
   unfolding setNote
   uid-stored u = refl
+
+  pub order-stored : (x : ℕ) → set tr nextOrderAt x ≡ setNote nextOrderAt tr x
+  unfolding setNote
+  order-stored x = refl
 
   pub place-stored : (phase slot : ℕ) → set (set tr phaseAt phase) placeAt slot ≡ setPlace tr phase slot
   unfolding setPlace
@@ -173,18 +178,24 @@ module _ (tr : List ℕ) (n : ℕ) {d : ℕ} (sl : d ≡ note slotsAt tr) where
       unfolding notesFit
       notes-place k = rw (← sl, eq-eqb d n same, lt-ltb (note lastAt tr) n (omega arith), le-ltb (note placeAt tr) n (omega arith))
 
-      pub notes-uid : {u : ℕ} {r : Bool} → b < n → u ≡ note nextUidAt tr → r ≡ uidOk u → r ≡ notesFit tr n
-      unfolding notesFit uidOk
-      notes-uid k e q = rw (← sl, eq-eqb d n same, lt-ltb (note lastAt tr) n (omega arith), lt-ltb (note placeAt tr) n (omega arith), ← e) q
+      module _ {u : ℕ} {o : Bool} (k : b < n) (e : u ≡ note nextUidAt tr) (ok : o ≡ nextOk u) where
+        pub notes-uid : o ≡ false → false ≡ notesFit tr n
+        unfolding notesFit
+        notes-uid q = rw (← sl, eq-eqb d n same, lt-ltb (note lastAt tr) n (omega arith), lt-ltb (note placeAt tr) n (omega arith), ← e, ← ok, q)
 
-module _ (u : ℕ) where
-  pub uid-low : u < 1 → false ≡ uidOk u
-  unfolding uidOk
-  uid-low h = rw (lt-leb 1 u h)
+        pub notes-order : {x : ℕ} {r : Bool} → o ≡ true → x ≡ note nextOrderAt tr → r ≡ nextOk x → r ≡ notesFit tr n
+        unfolding notesFit
+        notes-order q i y =
+            rw (← sl, eq-eqb d n same, lt-ltb (note lastAt tr) n (omega arith), lt-ltb (note placeAt tr) n (omega arith), ← e, ← ok, q, ← i) y
 
-  pub uid-top : 1 ≤ u → leb u (mostNumber + 1) ≡ uidOk u
-  unfolding uidOk
-  uid-top h = rw (le-leb 1 u h)
+module _ (x : ℕ) where
+  pub next-low : x < 1 → false ≡ nextOk x
+  unfolding nextOk
+  next-low h = rw (lt-leb 1 x h)
+
+  pub next-top : 1 ≤ x → leb x (mostNumber + 1) ≡ nextOk x
+  unfolding nextOk
+  next-top h = rw (le-leb 1 x h)
 
 images-shaped : (wk l : List ℕ) → imagesFit wk l ≡ true → Sized wk (slotsOf wk) (widthOf wk)
 unfolding imagesFit
@@ -282,6 +293,6 @@ module _ (wk l tr : List ℕ) {s : Bool} (sf : s ≡ sizesFit wk l tr) where
           unfolding entryCheck sizesFit clocksFit
           entry-fine e = let q : clocksFit wk l tr (sizesOf (table wk tr) .t) ≡ true = rw (sizes-t wk tr, ← at, ← ts) (sym ck ∙ e) in rw (← sf, st, q)
 
-pub ruleset laws = (tests, requires-laws, storings, clearings, threads-wrap, sizable-room, sizes-made, blank-set, based-even, based-odd, last-stored, uid-stored, place-stored, open-stored, retired-stored, waiting-stored, waiting-is, list-room, list-emptied)
+pub ruleset laws = (tests, requires-laws, storings, clearings, threads-wrap, sizable-room, sizes-made, blank-set, based-even, based-odd, last-stored, uid-stored, order-stored, place-stored, open-stored, retired-stored, waiting-stored, waiting-is, list-room, list-emptied)
 
-pub ruleset entries = (everies, alike-slots, alike-width, images-working, images-length, images-paired, images-alike, notes-slots, notes-last, notes-place, notes-uid, uid-low, uid-top, sizes-images, images-in, images-slots-hi, sizes-threads, sizes-notes, threads-room, fitting-threads, open-none, open-now, open-before, held-sure, opens-is, clocks-bad, clocks-differ, clocks-opens, entry-sizes, entry-in, entry-room, entry-fitting, entry-clock, entry-fine)
+pub ruleset entries = (everies, alike-slots, alike-width, images-working, images-length, images-paired, images-alike, notes-slots, notes-last, notes-place, notes-uid, notes-order, next-low, next-top, sizes-images, images-in, images-slots-hi, sizes-threads, sizes-notes, threads-room, fitting-threads, open-none, open-now, open-before, held-sure, opens-is, clocks-bad, clocks-differ, clocks-opens, entry-sizes, entry-in, entry-room, entry-fitting, entry-clock, entry-fine)

@@ -13,7 +13,7 @@ use native.Mathlib.Decide.{ℕ-discrete, decLt}
 use Rattle.search.specs.Bools.{cases, and-left}
 use Rattle.image.specs.Laws.{length-stored, stored-outside, stored-inside}
 use Rattle.transient.specs.declared.sizes.Sizes.{Sizes}
-use Rattle.transient.specs.Layout.{slotsAt, lastAt, nextUidAt, phaseAt, placeAt, headWords, openAt, retiredAt, listBase, waitingAt, threadsOf, threadsOk, note, openEpoch, retiredIn, isWaiting, setNote, setOpen, setRetired, setWaiting, setPlace, emptied, blank}
+use Rattle.transient.specs.Layout.{slotsAt, lastAt, nextUidAt, nextOrderAt, phaseAt, placeAt, headWords, openAt, retiredAt, listBase, waitingAt, threadsOf, threadsOk, note, openEpoch, retiredIn, isWaiting, setNote, setOpen, setRetired, setWaiting, setPlace, emptied, blank}
 use Rattle.transient.specs.Requires.{Notes}
 
 -- ---- the two lists
@@ -81,6 +81,10 @@ module _ (tr : List ℕ) where
   unfolding setNote
   uid-only u = one-word tr nextUidAt u
 
+  order-only : (x : ℕ) → Only tr (setNote nextOrderAt tr x) nextOrderAt 1
+  unfolding setNote
+  order-only x = one-word tr nextOrderAt x
+
   open-only : (thread e : ℕ) → Only tr (setOpen tr thread e) (openAt thread) 1
   unfolding setOpen
   open-only thread e = one-word tr (openAt thread) e
@@ -126,9 +130,10 @@ pub record FrontKept (z : Sizes) (tr tr′ : List ℕ) : Type 0 where
   pub noted : note slotsAt tr′ ≡ note slotsAt tr
   pub last : note lastAt tr′ ≡ note lastAt tr
   pub uid : note nextUidAt tr′ ≡ note nextUidAt tr
+  pub order : note nextOrderAt tr′ ≡ note nextOrderAt tr
 
 pub front-same : {z : Sizes} {tr : List ℕ} → FrontKept z tr tr
-front-same = record { head = record { long = refl; opens = λ u h. refl; phase = refl; slot = refl }; noted = refl; last = refl; uid = refl }
+front-same = record { head = record { long = refl; opens = λ u h. refl; phase = refl; slot = refl }; noted = refl; last = refl; uid = refl; order = refl }
 
 -- a slot's retirement, and whether it waits in each list
 pub record SlotKept (z : Sizes) (tr tr′ : List ℕ) (m : ℕ) : Type 0 where
@@ -156,7 +161,13 @@ module _ {tr tr′ : List ℕ} {at k : ℕ} (o : Only tr tr′ at k) where
   -- what is written among the slots leaves the whole head
   front-kept : (z : Sizes) → headWords + z .t ≤ at → FrontKept z tr tr′
   front-kept z h =
-      record { head = head-kept z (inr h); noted = o .words slotsAt (inl (omega arith)); last = o .words lastAt (inl (omega arith)); uid = o .words nextUidAt (inl (omega arith)) }
+      record {
+        head = head-kept z (inr h);
+        noted = o .words slotsAt (inl (omega arith));
+        last = o .words lastAt (inl (omega arith));
+        uid = o .words nextUidAt (inl (omega arith));
+        order = o .words nextOrderAt (inl (omega arith));
+      }
 
   -- what is written before the slots leaves every slot's
   slot-kept : (z : Sizes) → at + k ≤ headWords + z .t → (m : ℕ) → SlotKept z tr tr′ m
@@ -165,6 +176,9 @@ module _ {tr tr′ : List ℕ} {at k : ℕ} (o : Only tr tr′ at k) where
 
   uid-kept : (at + k ≤ nextUidAt) ⊎ (nextUidAt < at) → note nextUidAt tr′ ≡ note nextUidAt tr
   uid-kept c = o .words nextUidAt (⊎-elim (λ q. inr q) (λ q. inl q) c)
+
+  order-kept : (at + k ≤ nextOrderAt) ⊎ (nextOrderAt < at) → note nextOrderAt tr′ ≡ note nextOrderAt tr
+  order-kept c = o .words nextOrderAt (⊎-elim (λ q. inr q) (λ q. inl q) c)
 
 -- ---- .. after each writer
 module _ (tr : List ℕ) (z : Sizes) where
@@ -178,12 +192,28 @@ module _ (tr : List ℕ) (z : Sizes) where
     pub last-uid : note nextUidAt (setNote lastAt tr s) ≡ note nextUidAt tr
     last-uid = uid-kept (last-only tr s) (inl (omega arith))
 
+    pub last-order : note nextOrderAt (setNote lastAt tr s) ≡ note nextOrderAt tr
+    last-order = order-kept (last-only tr s) (inl (omega arith))
+
   module _ (u : ℕ) where
     pub uid-head : HeadKept z tr (setNote nextUidAt tr u)
     uid-head = head-kept (uid-only tr u) z (inl (omega arith))
 
     pub uid-slots : (m : ℕ) → SlotKept z tr (setNote nextUidAt tr u) m
     uid-slots = slot-kept (uid-only tr u) z (omega arith)
+
+    pub uid-order : note nextOrderAt (setNote nextUidAt tr u) ≡ note nextOrderAt tr
+    uid-order = order-kept (uid-only tr u) (inl (omega arith))
+
+  module _ (x : ℕ) where
+    pub order-head : HeadKept z tr (setNote nextOrderAt tr x)
+    order-head = head-kept (order-only tr x) z (inl (omega arith))
+
+    pub order-slots : (m : ℕ) → SlotKept z tr (setNote nextOrderAt tr x) m
+    order-slots = slot-kept (order-only tr x) z (omega arith)
+
+    pub order-uid : note nextUidAt (setNote nextOrderAt tr x) ≡ note nextUidAt tr
+    order-uid = uid-kept (order-only tr x) (inr (omega arith))
 
   module _ (thread e : ℕ) where
     pub open-slots : thread < z .t → (m : ℕ) → SlotKept z tr (setOpen tr thread e) m
@@ -200,6 +230,9 @@ module _ (tr : List ℕ) (z : Sizes) where
 
     pub open-uid : note nextUidAt (setOpen tr thread e) ≡ note nextUidAt tr
     open-uid = uid-kept (open-only tr thread e) (inr (omega arith))
+
+    pub open-order : note nextOrderAt (setOpen tr thread e) ≡ note nextOrderAt tr
+    open-order = order-kept (open-only tr thread e) (inr (omega arith))
 
   module _ (phase slot : ℕ) where
     pub place-long : length (setPlace tr phase slot) ≡ length tr
@@ -219,6 +252,9 @@ module _ (tr : List ℕ) (z : Sizes) where
 
     pub place-uid : note nextUidAt (setPlace tr phase slot) ≡ note nextUidAt tr
     place-uid = uid-kept (place-only tr phase slot) (inr (omega arith))
+
+    pub place-order : note nextOrderAt (setPlace tr phase slot) ≡ note nextOrderAt tr
+    place-order = order-kept (place-only tr phase slot) (inr (omega arith))
 
   module _ (s e : ℕ) where
     pub retired-front : FrontKept z tr (setRetired z tr s e)
@@ -243,32 +279,42 @@ pub threads-head : (len n : ℕ) → threadsOk len n ≡ true → headWords ≤ 
 unfolding threadsOk
 threads-head len n e = omega (arith, leb-true 1 (threadsOf len n) (and-left (leb 1 (threadsOf len n)) _ e))
 
-module _ (len n u : ℕ) where
-  pub blank-length : length (blank len n u) ≡ len
+module _ (len n u x : ℕ) where
+  pub blank-length : length (blank len n u x) ≡ len
   unfolding blank
   blank-length = simp (length-set, length-replicate)
 
-  blank-zeros : (j : ℕ) → nextUidAt < j → getD (blank len n u) j 0 ≡ 0
-  unfolding blank
+  -- the notes before the order number is set
+  numbered : List ℕ
+  numbered = set (set (set (replicate len 0) slotsAt n) lastAt (n - 1)) nextUidAt u
+
+  blank-zeros : (j : ℕ) → nextOrderAt < j → getD (blank len n u x) j 0 ≡ 0
+  unfolding blank numbered
   blank-zeros j h =
-      getD-set-other (set (set (replicate len 0) slotsAt n) lastAt (n - 1)) nextUidAt j u 0 (λ q. omega arith)
+      getD-set-other numbered nextOrderAt j x 0 (λ q. omega arith)
+      ∙ getD-set-other (set (set (replicate len 0) slotsAt n) lastAt (n - 1)) nextUidAt j u 0 (λ q. omega arith)
       ∙ getD-set-other (set (replicate len 0) slotsAt n) lastAt j (n - 1) 0 (λ q. omega arith)
       ∙ getD-set-other (replicate len 0) slotsAt j n 0 (λ q. omega arith)
       ∙ zeros-at len j
 
-  pub blank-uid : headWords ≤ len → note nextUidAt (blank len n u) ≡ u
-  unfolding blank
+  pub blank-uid : headWords ≤ len → note nextUidAt (blank len n u x) ≡ u
+  unfolding blank numbered
   blank-uid h =
-      getD-set-same (set (set (replicate len 0) slotsAt n) lastAt (n - 1)) nextUidAt u 0
+      getD-set-other numbered nextOrderAt nextUidAt x 0 (λ q. omega arith)
+      ∙ getD-set-same (set (set (replicate len 0) slotsAt n) lastAt (n - 1)) nextUidAt u 0
       (simp (length-set, length-replicate) (omega arith))
 
-  pub blank-phase : note phaseAt (blank len n u) ≡ 0
+  pub blank-order : headWords ≤ len → note nextOrderAt (blank len n u x) ≡ x
+  unfolding blank numbered
+  blank-order h = getD-set-same numbered nextOrderAt x 0 (simp (length-set, length-replicate) (omega arith))
+
+  pub blank-phase : note phaseAt (blank len n u x) ≡ 0
   blank-phase = blank-zeros phaseAt (omega arith)
 
-  pub blank-open : (thread : ℕ) → openEpoch (blank len n u) thread ≡ 0
+  pub blank-open : (thread : ℕ) → openEpoch (blank len n u x) thread ≡ 0
   blank-open thread = blank-zeros (openAt thread) (omega arith)
 
-  pub blank-retired : (z : Sizes) (s : ℕ) → retiredIn z (blank len n u) s ≡ 0
+  pub blank-retired : (z : Sizes) (s : ℕ) → retiredIn z (blank len n u x) s ≡ 0
   blank-retired z s = blank-zeros (retiredAt z s) (omega arith)
 
 -- ---- each writer's own note
@@ -276,6 +322,10 @@ module _ {tr : List ℕ} {z : Sizes} (y : Notes tr z) where
   pub uid-set : (u : ℕ) → note nextUidAt (setNote nextUidAt tr u) ≡ u
   unfolding setNote
   uid-set u = getD-set-same tr nextUidAt u 0 (omega (arith, y .long))
+
+  pub order-set : (x : ℕ) → note nextOrderAt (setNote nextOrderAt tr x) ≡ x
+  unfolding setNote
+  order-set x = getD-set-same tr nextOrderAt x 0 (omega (arith, y .long))
 
   pub phase-set : (phase slot : ℕ) → note phaseAt (setPlace tr phase slot) ≡ phase
   unfolding setPlace

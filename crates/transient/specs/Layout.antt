@@ -1,6 +1,7 @@
 -- Where each word of the notes stands, what is read there and what is written. 01: "The notes are lost at a cut: for each of
 -- T threads (1 to 16) its open epoch or none; which payloads are retired, and in which epoch; a waiting list of slots for each
--- recent epoch; the last slot taken; the next uid; the place an advance has reached." They also say their N.
+-- recent epoch; the last slot taken; the next uid; the place an advance has reached." 02, No. 3: the next order number. They also say
+-- their N.
 use Prim.Native.Nat.{ℕ, _+_, _*_, _-_, _%_}
 use mathlib.Core.Bool.{Bool, not, cond, _&&_}
 use mathlib.Core.List.{List}
@@ -19,14 +20,17 @@ lastAt = 1
 abbrev pub nextUidAt : ℕ
 nextUidAt = 2
 
+abbrev pub nextOrderAt : ℕ
+nextOrderAt = 3
+
 abbrev pub phaseAt : ℕ
-phaseAt = 3
+phaseAt = 4
 
 abbrev pub placeAt : ℕ
-placeAt = 4
+placeAt = 5
 
 abbrev pub headWords : ℕ
-headWords = 5
+headWords = 6
 
 abbrev pub openAt : ℕ → ℕ
 openAt thread = headWords + thread
@@ -53,8 +57,8 @@ unfoldable pub threadsOk : ℕ → ℕ → Bool
 threadsOk len n = leb 1 (threadsOf len n) && leb (threadsOf len n) 16
 
 -- ---- readers
--- a word of the head: the N that the notes are for, "the last slot taken; the next uid; the place an advance has reached", which
--- is its phase and its slot
+-- a word of the head: the N that the notes are for, "the last slot taken; the next uid", the next order number, and "the place an
+-- advance has reached", which is its phase and its slot
 abbrev pub note : ℕ → List ℕ → ℕ
 note at tr = getD tr at 0
 
@@ -91,5 +95,5 @@ unfoldable pub emptied : Sizes → List ℕ → ℕ → List ℕ
 emptied z tr e = stored tr (waitingAt z e 0) (replicate (z .n) 0) (z .n)
 
 -- "nothing open, retired, waiting or underway", for n slots; the search for a free slot begins at 0, after the last
-unfoldable pub blank : ℕ → ℕ → ℕ → List ℕ
-blank len n uid = set (set (set (replicate len 0) slotsAt n) lastAt (n - 1)) nextUidAt uid
+unfoldable pub blank : ℕ → ℕ → ℕ → ℕ → List ℕ
+blank len n uid order = set (set (set (set (replicate len 0) slotsAt n) lastAt (n - 1)) nextUidAt uid) nextOrderAt order

@@ -17,11 +17,11 @@ use Rattle.image.specs.Layout.{mostNumber, slotsOf, widthOf, clockOf, shapeOk, 
 use Rattle.image.specs.Requires.{Sized}
 use Rattle.image.specs.Laws.{shaped}
 use Rattle.transient.specs.declared.sizes.Sizes.{Sizes}
-use Rattle.transient.specs.Layout.{threadsOf, threadsOk, note, slotsAt, lastAt, nextUidAt, placeAt}
+use Rattle.transient.specs.Layout.{threadsOf, threadsOk, note, slotsAt, lastAt, nextUidAt, nextOrderAt, placeAt}
 use Rattle.transient.specs.Store.{Store, Table, store, table, sizesOf, Outcome, outcome, afterCheck}
-use Rattle.transient.specs.Entry.{imagesFit, notesFit, entryCheck}
+use Rattle.transient.specs.Entry.{imagesFit, nextOk, notesFit, entryCheck}
 use Rattle.transient.specs.Calls.{Changed, changed, onStore}
-use Rattle.transient.specs.Requires.{uidOk, sizesFit, clocksFit, Notes, Sizable, Entered, EnteredWith}
+use Rattle.transient.specs.Requires.{sizesFit, clocksFit, Notes, Sizable, Entered, EnteredWith}
 
 pub sizes-t : (wk tr : List ℕ) → sizesOf (table wk tr) .t ≡ threadsOf (length tr) (slotsOf wk)
 unfolding sizesOf
@@ -37,9 +37,15 @@ pub record Sizing (wk l tr : List ℕ) (z : Sizes) : Type 0 where
   pub place : note placeAt tr < z .n
   pub uid-lo : 1 ≤ note nextUidAt tr
   pub uid-hi : note nextUidAt tr ≤ mostNumber + 1
+  pub order-lo : 1 ≤ note nextOrderAt tr
+  pub order-hi : note nextOrderAt tr ≤ mostNumber + 1
+
+next-range : (x : ℕ) → nextOk x ≡ true → (1 ≤ x) × (x ≤ mostNumber + 1)
+unfolding nextOk
+next-range x e = (leb-true 1 x (and-left (leb 1 x) _ e), leb-true x (mostNumber + 1) (and-right (leb 1 x) _ e))
 
 pub sizing : (wk l tr : List ℕ) {r : Bool} → r ≡ sizesFit wk l tr → r ≡ true → Sizing wk l tr (sizesOf (table wk tr))
-unfolding sizesFit imagesFit threadsOk notesFit uidOk sizesOf
+unfolding sizesFit imagesFit threadsOk notesFit sizesOf
 sizing wk l tr {r} e h =
     let n = slotsOf wk in
     let k = threadsOf (length tr) n in
@@ -55,7 +61,9 @@ sizing wk l tr {r} e h =
     let fits = and-left (leb 1 k && leb k 16) _ rest in
     let notes = and-right (eqb (note slotsAt tr) n) _ (and-right (leb 1 k && leb k 16) _ rest) in
     let more = and-right (ltb (note lastAt tr) n) _ notes in
-    let uid = and-right (ltb (note placeAt tr) n) _ more in
+    let nexts = and-right (ltb (note placeAt tr) n) _ more in
+    let uid = next-range (note nextUidAt tr) (and-left (nextOk (note nextUidAt tr)) _ nexts) in
+    let order = next-range (note nextOrderAt tr) (and-right (nextOk (note nextUidAt tr)) _ nexts) in
     let lo : 1 ≤ k = leb-true 1 k (and-left (leb 1 k) _ fits) in
     let hi : k ≤ 16 = leb-true k 16 (and-right (leb 1 k) _ fits) in
     record {
@@ -65,8 +73,10 @@ sizing wk l tr {r} e h =
       some = lo;
       last = ltb-true _ _ (and-left (ltb (note lastAt tr) n) _ notes);
       place = ltb-true _ _ (and-left (ltb (note placeAt tr) n) _ more);
-      uid-lo = leb-true _ _ (and-left (leb 1 (note nextUidAt tr)) _ uid);
-      uid-hi = leb-true _ _ (and-right (leb 1 (note nextUidAt tr)) _ uid);
+      uid-lo = uid .0;
+      uid-hi = uid .1;
+      order-lo = order .0;
+      order-hi = order .1;
     }
 
 -- ---- and refusal 2
@@ -94,6 +104,8 @@ entry-with wk l tr a =
         place = y .place;
         uid-lo = y .uid-lo;
         uid-hi = y .uid-hi;
+        order-lo = y .order-lo;
+        order-hi = y .order-hi;
         clock-lo = range .0;
         clock-hi = range .1;
       };

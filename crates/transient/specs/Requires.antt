@@ -4,12 +4,12 @@ use mathlib.Core.Path.{_≡_, _∙_}
 use mathlib.Core.Bool.{Bool, _&&_, _||_}
 use mathlib.Core.List.{List}
 use lib.ListN.{length}
-use lib.Dec.{leb, eqb}
+use lib.Dec.{eqb}
 use native.Mathlib.Omega.{arith}
 use Rattle.image.specs.Layout.{mostSlots, mostNumber, slotsOf, widthOf, clockOf, clockOk}
 use Rattle.image.specs.Requires.{Sized, Slot, HeaderFits, slot, header-fits}
 use Rattle.transient.specs.declared.sizes.Sizes.{Sizes}
-use Rattle.transient.specs.Layout.{headWords, listBase, transientWords, threadsOk, note, lastAt, nextUidAt, placeAt}
+use Rattle.transient.specs.Layout.{headWords, listBase, transientWords, threadsOk, note, lastAt, nextUidAt, nextOrderAt, placeAt}
 use Rattle.transient.specs.Entry.{imagesFit, notesFit, opensOk}
 
 -- ---- the notes alone
@@ -58,10 +58,7 @@ pub record Paired (wk l : List ℕ) : Type 0 where
 unfoldable pub sizesAlike : List ℕ → List ℕ → Bool
 sizesAlike wk l = eqb (slotsOf l) (slotsOf wk) && eqb (widthOf l) (widthOf wk)
 
--- the parts of refusal 1, in the words of `notesFit` and `entryCheck`
-unfoldable pub uidOk : ℕ → Bool
-uidOk u = leb 1 u && leb u (mostNumber + 1)
-
+-- a part of refusal 1, in the words of `entryCheck`
 unfoldable pub sizesFit : List ℕ → List ℕ → List ℕ → Bool
 sizesFit wk l tr = imagesFit wk l && (threadsOk (length tr) (slotsOf wk) && notesFit tr (slotsOf wk))
 
@@ -98,6 +95,8 @@ pub record Entered (wk tr : List ℕ) (z : Sizes) : Type 0 where
   pub place : note placeAt tr < z .n
   pub uid-lo : 1 ≤ note nextUidAt tr
   pub uid-hi : note nextUidAt tr ≤ mostNumber + 1
+  pub order-lo : 1 ≤ note nextOrderAt tr
+  pub order-hi : note nextOrderAt tr ≤ mostNumber + 1
   pub clock-lo : 2 ≤ clockOf wk
   pub clock-hi : clockOf wk ≤ mostNumber
 

@@ -5,9 +5,9 @@ ghost use mathlib.Core.Path.{_≡_};
 ghost use Prim.Native.Nat.{_≤_};
 ghost use lib.ListN.{length};
 ghost use Rattle.transient.specs.Store.{store};
-ghost use Rattle.transient.specs.Entry.{imagesFit, notesFit, opensOk, entryCheck};
+ghost use Rattle.transient.specs.Entry.{imagesFit, nextOk, notesFit, opensOk, entryCheck};
 ghost use Rattle.transient.specs.Layout.{headWords};
-ghost use Rattle.transient.specs.Requires.{Paired, sizesAlike, uidOk, sizesFit, openOk, clocksFit, Threads, Fitting};
+ghost use Rattle.transient.specs.Requires.{Paired, sizesAlike, sizesFit, openOk, clocksFit, Threads, Fitting};
 
 // Do two images say the same sizes?
 fn alike(working: &[u32], persistent: &[u32]) -> bool
@@ -34,13 +34,14 @@ fn images_fit(working: &[u32], persistent: &[u32]) -> bool
     }
 }
 
-fn uid_ok(u: u32) -> bool
-    ensures { λ r. ⌜ r ≡ uidOk u ⌝ }
+// Is a next uid or a next order number in range?
+fn next_ok(x: u32) -> bool
+    ensures { λ r. ⌜ r ≡ nextOk x ⌝ }
 {
-    if u < 1 {
+    if x < 1 {
         return false;
     }
-    u <= image::shape::MOST_NUMBER + 1
+    x <= image::shape::MOST_NUMBER + 1
 }
 
 fn notes_fit(transient: &[u32], n: usize) -> bool
@@ -56,7 +57,11 @@ fn notes_fit(transient: &[u32], n: usize) -> bool
     if n <= crate::notes::place_slot(transient) {
         return false;
     }
-    uid_ok(crate::notes::next_uid(transient))
+    if next_ok(crate::notes::next_uid(transient)) {
+        next_ok(crate::notes::next_order(transient))
+    } else {
+        false
+    }
 }
 
 fn sizes_fit(working: &[u32], persistent: &[u32], transient: &[u32]) -> bool

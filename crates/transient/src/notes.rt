@@ -5,7 +5,7 @@ ghost use Prim.Native.Nat.{_+_, _≤_, _<_};
 ghost use lib.ListN.{length, replicate};
 ghost use Rattle.image.specs.Layout.{mostSlots};
 ghost use Rattle.image.specs.Line.{stored};
-ghost use Rattle.transient.specs.Layout.{headWords, transientWords, threadsOf, threadsOk, blank, note, slotsAt, lastAt, nextUidAt, phaseAt, placeAt, openEpoch, retiredIn, isWaiting, setNote, setOpen, setRetired, setWaiting, setPlace, emptied};
+ghost use Rattle.transient.specs.Layout.{headWords, transientWords, threadsOf, threadsOk, blank, note, slotsAt, lastAt, nextUidAt, nextOrderAt, phaseAt, placeAt, openEpoch, retiredIn, isWaiting, setNote, setOpen, setRetired, setWaiting, setPlace, emptied};
 ghost use Rattle.transient.specs.Requires.{Based, InReach, ThreadRoom, Blanking, Notes, NoteOf, ThreadOf};
 
 // Where the words of the head stand, and how many these are; then come the threads, then the slots.
@@ -15,11 +15,13 @@ const LAST: usize = 1;
 
 const NEXT_UID: usize = 2;
 
-const PHASE: usize = 3;
+const NEXT_ORDER: usize = 3;
 
-const PLACE: usize = 4;
+const PHASE: usize = 4;
 
-pub const HEAD: usize = 5;
+const PLACE: usize = 5;
+
+pub const HEAD: usize = 6;
 
 // Does a slice of this length hold the notes of 1 to 16 threads, for `n` slots?
 pub fn threads_ok(len: usize, n: usize) -> bool
@@ -47,15 +49,16 @@ pub fn threads(len: usize, n: usize) -> usize
 }
 
 // For n slots, with nothing open, retired, waiting or underway.
-pub fn set_blank(transient: &mut [u32], n: u32, uid: u32)
+pub fn set_blank(transient: &mut [u32], n: u32, uid: u32, order: u32)
     requires { ⌜ Blanking (now transient) n ⌝ }
-    ensures { λ _. ⌜ now (transient .exit) ≡ blank (length (now (transient .entry))) n uid ⌝ }
+    ensures { λ _. ⌜ now (transient .exit) ≡ blank (length (now (transient .entry))) n uid order ⌝ }
 {
     let last = n - 1;
     image::contents::clear(transient);
     transient[SLOTS] = n;
     transient[LAST] = last;
     transient[NEXT_UID] = uid;
+    transient[NEXT_ORDER] = order;
 }
 
 pub fn noted_slots(transient: &[u32]) -> usize
@@ -77,6 +80,13 @@ pub fn next_uid(transient: &[u32]) -> u32
     ensures { λ r. ⌜ r ≡ note nextUidAt (now (transient .entry)) ⌝ }
 {
     transient[NEXT_UID]
+}
+
+pub fn next_order(transient: &[u32]) -> u32
+    requires { ⌜ headWords ≤ length (now transient) ⌝ }
+    ensures { λ r. ⌜ r ≡ note nextOrderAt (now (transient .entry)) ⌝ }
+{
+    transient[NEXT_ORDER]
 }
 
 pub fn place_phase(transient: &[u32]) -> u32
@@ -119,6 +129,13 @@ pub fn set_next_uid(transient: &mut [u32], uid: u32)
     ensures { λ _. ⌜ now (transient .exit) ≡ setNote nextUidAt (now (transient .entry)) uid ⌝ }
 {
     transient[NEXT_UID] = uid;
+}
+
+pub fn set_next_order(transient: &mut [u32], order: u32)
+    requires { ⌜ headWords ≤ length (now transient) ⌝ }
+    ensures { λ _. ⌜ now (transient .exit) ≡ setNote nextOrderAt (now (transient .entry)) order ⌝ }
+{
+    transient[NEXT_ORDER] = order;
 }
 
 pub fn set_open(transient: &mut [u32], z: Sizes, thread: usize, e: u32)

@@ -1,4 +1,4 @@
--- `set_blank`: cleared, then three stores, of which each keeps the length.
+-- `set_blank`: cleared, then four stores, of which each keeps the length.
 use borrow.Author.Needs.{needs}
 use lib.ListN.{length-set}
 use native.Mathlib.Omega.{arith}
@@ -13,6 +13,7 @@ set-blank-spec =
     (λ c. search (needs, blank-set))
     (λ c κs. search (needs, blank-set))
     (λ c. search (needs, blank-set))
+    (λ c. simp length-set (omega arith))
     (λ c. simp length-set (omega arith))
     (λ c. simp length-set (omega arith))
     (λ c. search (needs, blank-set))
