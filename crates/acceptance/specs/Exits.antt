@@ -4,32 +4,33 @@ use mathlib.Core.Path.{_≡_, refl, sym, _∙_}
 use mathlib.Core.Bool.{Bool, true, false, _&&_, and-true, and-false}
 use mathlib.Core.List.{List}
 use lib.ListN.{length, getD}
-use lib.Dec.{eqb}
+use lib.Dec.{leb, eqb}
 use borrow.Author.Tests.{le-leb, lt-leb, eq-eqb, ne-eqb, eqb-true}
 use native.Mathlib.Omega.{arith}
 use Rattle.search.specs.Bools.{tests, and-left, and-right}
 use Rattle.search.specs.First.{loops as firsts}
 use Rattle.search.specs.Some.{anyOf, every, loops as somes}
+use Rattle.search.specs.Count.{count, loops as counts}
 use Rattle.reply.specs.declared.Check.{Check}
 use Rattle.reply.specs.declared.Check.the-variants.{Accepted, Refused}
 use Rattle.reply.specs.declared.Refusal.{Refusal}
 use Rattle.reply.specs.declared.Refusal.the-variants.{BadSizes, BadClock, BadSlot, Duplicate}
 use Rattle.reply.specs.Refusals.{declinedNumber}
 use Rattle.image.specs.declared.header.Header.{Header}
-use Rattle.image.specs.Layout.{mostNumber, jobsBoard, filledKind, header, keyAt, slotsOf, widthOf, clockOf, shapeOk, clockOk}
+use Rattle.image.specs.Layout.{mostNumber, jobsBoard, queueBoard, filledKind, header, keyAt, slotsOf, widthOf, clockOf, shapeOk, clockOk}
 use Rattle.image.specs.declared.name.Name.{Name}
-use Rattle.image.specs.Name.{nameAt, sameName, unnamed, same-name, name-is, key-same}
+use Rattle.image.specs.Name.{nameAt, sameName, misnamed, same-name, name-is, key-same}
 use Rattle.image.specs.Requires.{Sized, Slot, HeaderFits, slot}
 use Rattle.image.specs.Laws.{shaped}
 use Rattle.chains.specs.Chains.{Under}
 use Rattle.chains.specs.Requires.{LinkPlace}
 use Rattle.chains.specs.Linking.{Linking, linking-start, linking-next, linking-place, linking-end}
 use Rattle.chains.specs.Chased.{Chased, chased-under, chased-slot, walks}
-use Rattle.survival.specs.Survivors.{kept, survivor, survivorCount}
-use Rattle.survival.specs.Requires.{SlotMarked, uids, header-in, slot-marked, uids-small, uids-large, marks}
+use Rattle.survival.specs.Survivors.{kept, survivor, survivesOn}
+use Rattle.survival.specs.Requires.{SlotMarked, FlagAt, uids, header-in, slot-marked, flag-at, flag-header, uids-small, uids-large, marks}
 use Rattle.survival.specs.Laws.{flag-is, uid-at}
 use Rattle.acceptance.specs.Accept.{blankHeader, filledHeader, proper, versionBelow, survivesAs, nameBelow, imageCheck}
-use Rattle.acceptance.specs.Questions.{clockAnswer, survivorsAnswer}
+use Rattle.acceptance.specs.Questions.{clockAnswer, jobCount, survivorsAnswer}
 use Rattle.acceptance.specs.Requires.{headCheck, nameless, slotsCheck, survivorsPast, sameVersion, versionIn, UidChains, UidsAt, VersionOf, KeysUnlinked, KeysAt, NameOf, uid-chains, uids-at, version-of, keys-small, keys-large, keys-unlinked, key-chains, keys-at, name-of, allProper, someNameless, versionTwice, nameTwice}
 use Rattle.acceptance.specs.Laws.{image-is, head-sized, image-sized}
 
@@ -75,9 +76,14 @@ module _ (c : ℕ) (h : Header) {f : Bool} (fl : f ≡ filledKind (h .kind)) whe
       unfolding filledHeader
       filled-high d u = rw (← fl, ft, le-leb 2 (h .epoch) a, le-leb (h .epoch) c b, le-leb 1 (h .uid) d, lt-leb (h .uid) mostNumber u)
 
-      pub filled-board : 1 ≤ h .uid → h .uid ≤ mostNumber → eqb (h .board) jobsBoard ≡ filledHeader c h
-      unfolding filledHeader
-      filled-board d u = rw (← fl, ft, le-leb 2 (h .epoch) a, le-leb (h .epoch) c b, le-leb 1 (h .uid) d, le-leb (h .uid) mostNumber u)
+      module _ (d : 1 ≤ h .uid) (u : h .uid ≤ mostNumber) where
+        pub filled-none : h .board < jobsBoard → false ≡ filledHeader c h
+        unfolding filledHeader
+        filled-none p = rw (← fl, ft, le-leb 2 (h .epoch) a, le-leb (h .epoch) c b, le-leb 1 (h .uid) d, le-leb (h .uid) mostNumber u, lt-leb jobsBoard (h .board) p)
+
+        pub filled-board : jobsBoard ≤ h .board → leb (h .board) queueBoard ≡ filledHeader c h
+        unfolding filledHeader
+        filled-board p = rw (← fl, ft, le-leb 2 (h .epoch) a, le-leb (h .epoch) c b, le-leb 1 (h .uid) d, le-leb (h .uid) mostNumber u, le-leb jobsBoard (h .board) p)
 
 module _ (c : ℕ) (l : List ℕ) (s : ℕ) {h : Header} {b : Bool} (at : h ≡ header l s) (bl : b ≡ blankHeader h) where
   pub proper-blank : b ≡ true → true ≡ proper c (header l s)
@@ -94,9 +100,9 @@ proper-every l n e h = rw (← e) h
 
 -- ---- survivors by name
 module _ (l : List ℕ) (n w s : ℕ) (flags : List Bool) (z : SlotMarked l n w s flags) where
-  pub nameless-yes : {k : ℕ} → getD flags s false ≡ true → k ≡ keyAt l n w s → eqb k 0 ≡ nameless l n w s
-  unfolding nameless unnamed nameAt keyAt
-  nameless-yes t e = rw (flag-is (z .flagged) (z .slot .within) t, e)
+  pub nameless-yes : {name : Name} {r : Bool} → getD flags s false ≡ true → name ≡ nameAt l n w s → r ≡ misnamed name → r ≡ nameless l n w s
+  unfolding nameless
+  nameless-yes t e h = rw (flag-is (z .flagged) (z .slot .within) t, ← e) h
 
   pub nameless-no : getD flags s false ≡ false → false ≡ nameless l n w s
   unfolding nameless
@@ -240,9 +246,22 @@ module _ (l : List ℕ) (n w : ℕ) {k : Check} (c : k ≡ slotsCheck l n w) whe
   unfolding survivorsPast
   past-declines a e = rw (← c, a) e
 
-  pub past-goes : {v : ℕ} → k ≡ Accepted → v ≡ survivorCount l n → v ≡ survivorsPast l n w
+  pub past-goes : {v : ℕ} → k ≡ Accepted → v ≡ jobCount l n → v ≡ survivorsPast l n w
   unfolding survivorsPast
   past-goes a e = rw (← c, a) e
+
+module _ (l : List ℕ) (n s : ℕ) (flags : List Bool) (z : FlagAt l n s flags) where
+  pub job-board : {h : Header} → getD flags s false ≡ true → h ≡ header l s → eqb (h .board) jobsBoard ≡ survivesOn l n jobsBoard s
+  unfolding survivesOn
+  job-board t at = rw (flag-is (z .marked .flagged) (z .within) t, ← at)
+
+  pub job-gone : getD flags s false ≡ false → false ≡ survivesOn l n jobsBoard s
+  unfolding survivesOn
+  job-gone t = rw (flag-is (z .marked .flagged) (z .within) t)
+
+pub jobs-counted : (l : List ℕ) (n : ℕ) {r : ℕ} → r ≡ count (survivesOn l n jobsBoard) n → r ≡ jobCount l n
+unfolding jobCount
+jobs-counted l n e = e
 
 -- ---- the walk for a slot of one version
 -- it has the uid of the version
@@ -310,10 +329,10 @@ module _ {l : List ℕ} {n w s : ℕ} {name : Name} {flags : List Bool} {below :
   named-below y q = slot-marked (z .at .chains .marked) (omega (arith, chased-slot y q, z .at .within))
 
 -- headers, and the checks of an image
-pub ruleset laws = (tests, firsts, somes, marks, blank-kind, blank-epoch, blank-uid, blank-rest, filled-no, filled-early, filled-late, filled-zero, filled-high, filled-board, proper-blank, proper-else, proper-every, nameless-yes, nameless-no, some-nameless, head-shape, head-clock, head-fine, shape-room, slots-improper, slots-nameless, slots-version, slots-named, slots-fine)
+pub ruleset laws = (tests, firsts, somes, marks, blank-kind, blank-epoch, blank-uid, blank-rest, filled-no, filled-early, filled-late, filled-zero, filled-high, filled-none, filled-board, proper-blank, proper-else, proper-every, nameless-yes, nameless-no, some-nameless, head-shape, head-clock, head-fine, shape-room, slots-improper, slots-nameless, slots-version, slots-named, slots-fine)
 
 -- the whole check, and the questions
-pub ruleset answer-laws = (marks, check-declines, check-goes, check-long, check-sized, clock-declines, clock-goes, image-head, survivors-declines, survivors-goes, past-declines, past-goes)
+pub ruleset answer-laws = (tests, counts, marks, flag-at, flag-header, job-board, job-gone, jobs-counted, check-declines, check-goes, check-long, check-sized, clock-declines, clock-goes, image-head, survivors-declines, survivors-goes, past-declines, past-goes)
 
 -- two slots of one version
 pub ruleset version-laws = (tests, firsts, somes, walks, uids-small, uids-large, uid-chains, uids-at, version-of, version-uid, version-yes, version-no, version-in, below-yes, below-no, version-twice, chains-clock, version-at, version-word, version-start, version-under, version-header)

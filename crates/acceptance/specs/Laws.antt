@@ -13,7 +13,6 @@ use Rattle.reply.specs.declared.Refusal.the-variants.{BadSizes, BadClock}
 use Rattle.reply.specs.Refusals.{refuse, byCheck, not-refused, both-accepted}
 use Rattle.image.specs.Layout.{slotsOf, widthOf, clockOf, shapeOk, clockOk}
 use Rattle.image.specs.Line.{stored}
-use Rattle.image.specs.Name.{unnamed}
 use Rattle.image.specs.Requires.{Sized}
 use Rattle.image.specs.Laws.{shaped, stored-front, length-stored}
 use Rattle.image.specs.Bytes.{wordsOf, words-length}
@@ -22,7 +21,7 @@ use Rattle.acceptance.specs.Requires.{headCheck, nameless, slotsCheck, B
 
 -- the check of an image, by its parts
 pub image-is : (l : List ℕ) → imageCheck l ≡ byCheck (headCheck l) Refused (slotsCheck l (slotsOf l) (widthOf l))
-unfolding imageCheck headCheck slotsCheck nameless unnamed
+unfolding imageCheck headCheck slotsCheck nameless
 image-is l =
     ⊎-elim
     (λ (s : shapeOk l ≡ true).

@@ -4,18 +4,23 @@ use mathlib.Core.Bool.{Bool, not, _&&_}
 use mathlib.Core.List.{List}
 use lib.ListN.{length}
 use lib.Dec.{leb, eqb}
+use Rattle.search.specs.Count.{count}
 use Rattle.reply.specs.declared.Refusal.the-variants.{BadSizes}
 use Rattle.reply.specs.Refusals.{refuse, byCheck, declinedNumber}
-use Rattle.image.specs.Layout.{slotsOf, clockOf}
+use Rattle.image.specs.Layout.{jobsBoard, slotsOf, clockOf}
 use Rattle.image.specs.Bytes.{wordsOf}
-use Rattle.survival.specs.Survivors.{survivorCount}
+use Rattle.survival.specs.Survivors.{survivesOn}
 use Rattle.acceptance.specs.Accept.{imageCheck}
 
 unfoldable pub clockAnswer : List ℕ → ℕ
 clockAnswer l = byCheck (imageCheck l) declinedNumber (clockOf l)
 
+-- 02, No. 3: "the server counts jobs alone"
+unfoldable pub jobCount : List ℕ → ℕ → ℕ
+jobCount l n = count (survivesOn l n jobsBoard) n
+
 unfoldable pub survivorsAnswer : List ℕ → ℕ
-survivorsAnswer l = byCheck (imageCheck l) declinedNumber (survivorCount l (slotsOf l))
+survivorsAnswer l = byCheck (imageCheck l) declinedNumber (jobCount l (slotsOf l))
 
 -- "A byte count that fits no image is refused with 1": no whole words, or more than the largest image has
 unfoldable pub bytesOk : ℕ → Bool
@@ -26,4 +31,4 @@ clockOfBytes bytes = byCheck (refuse (not (bytesOk (length bytes))) BadSizes (im
 
 unfoldable pub survivorsOfBytes : List ℕ → ℕ
 survivorsOfBytes bytes =
-    byCheck (refuse (not (bytesOk (length bytes))) BadSizes (imageCheck (wordsOf bytes))) declinedNumber (survivorCount (wordsOf bytes) (slotsOf (wordsOf bytes)))
+    byCheck (refuse (not (bytesOk (length bytes))) BadSizes (imageCheck (wordsOf bytes))) declinedNumber (jobCount (wordsOf bytes) (slotsOf (wordsOf bytes)))

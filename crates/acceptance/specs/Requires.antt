@@ -17,31 +17,31 @@ use Rattle.reply.specs.Refusals.{refuse, byCheck, declinedNumber}
 use Rattle.image.specs.declared.header.Header.{Header}
 use Rattle.image.specs.Layout.{header, keyAt, clockOf, shapeOk, clockOk}
 use Rattle.image.specs.declared.name.Name.{Name}
-use Rattle.image.specs.Name.{nameAt, unnamed}
+use Rattle.image.specs.Name.{nameAt, misnamed}
 use Rattle.image.specs.Requires.{Sized}
 use Rattle.image.specs.Bytes.{Decodes}
 use Rattle.chains.specs.Chains.{Linked, Under}
 use Rattle.chains.specs.Requires.{Room, room-small, room-large}
-use Rattle.survival.specs.Survivors.{kept, survivor, survivorCount}
+use Rattle.survival.specs.Survivors.{kept, survivor}
 use Rattle.survival.specs.Requires.{Headers, AllMarked, uids, UidsLinked}
 use Rattle.acceptance.specs.Accept.{proper, versionBelow, nameBelow}
-use Rattle.acceptance.specs.Questions.{bytesOk}
+use Rattle.acceptance.specs.Questions.{jobCount, bytesOk}
 
--- ---- the parts of `imageCheck`, in its words: refusals 1 and 2, 3 and 4, a survivor without a name
+-- ---- the parts of `imageCheck`, in its words: refusals 1 and 2, 3 and 4, a survivor without a proper name
 unfoldable pub headCheck : List ℕ → Check
 headCheck l = refuse (not (shapeOk l)) BadSizes (refuse (not (clockOk (clockOf l))) BadClock Accepted)
 
 unfoldable pub nameless : List ℕ → ℕ → ℕ → ℕ → Bool
-nameless l n w s = survivor l n s && unnamed (nameAt l n w s)
+nameless l n w s = survivor l n s && misnamed (nameAt l n w s)
 
 unfoldable pub slotsCheck : List ℕ → ℕ → ℕ → Check
 slotsCheck l n w =
     refuse (not (every (λ s. proper (clockOf l) (header l s)) n) || anyOf (nameless l n w) n) BadSlot
     (refuse (anyOf (versionBelow (clockOf l) (header l)) n || anyOf (nameBelow l n w) n) Duplicate Accepted)
 
--- the number of survivors, past refusals 1 and 2
+-- the number of jobs that survive, past refusals 1 and 2
 unfoldable pub survivorsPast : List ℕ → ℕ → ℕ → ℕ
-survivorsPast l n w = byCheck (slotsCheck l n w) declinedNumber (survivorCount l n)
+survivorsPast l n w = byCheck (slotsCheck l n w) declinedNumber (jobCount l n)
 
 -- a kept header g with the uid and epoch of h; slot t is of the version of h
 unfoldable pub sameVersion : ℕ → Header → Header → Bool

@@ -13,8 +13,7 @@ use Rattle.reply.specs.declared.Check.the-variants.{Accepted}
 use Rattle.reply.specs.declared.Refusal.the-variants.{BadSizes, BadClock, BadSlot, Duplicate}
 use Rattle.reply.specs.Refusals.{refuse, not-refused, both-accepted}
 use Rattle.image.specs.declared.header.Header.{Header}
-use Rattle.image.specs.Layout.{mostSlots, mostNumber, jobsBoard, filledKind, header, slotsOf, widthOf, clockOf, sizesOk, shapeOk, clockOk}
-use Rattle.image.specs.Name.{unnamed}
+use Rattle.image.specs.Layout.{mostSlots, mostNumber, jobsBoard, queueBoard, filledKind, header, slotsOf, widthOf, clockOf, sizesOk, shapeOk, clockOk}
 use Rattle.image.specs.Requires.{Sized}
 use Rattle.acceptance.specs.Accept.{blankHeader, filledHeader, proper, versionBelow, nameBelow, imageCheck}
 use Rattle.acceptance.specs.Requires.{headCheck, nameless, slotsCheck}
@@ -49,7 +48,8 @@ pub record FilledOk (c : ℕ) (h : Header) : Type 0 where
   pub epoch-hi : h .epoch ≤ c
   pub uid-lo : 1 ≤ h .uid
   pub uid-hi : h .uid ≤ mostNumber
-  pub board-is : h .board ≡ jobsBoard
+  pub board-lo : jobsBoard ≤ h .board
+  pub board-hi : h .board ≤ queueBoard
 
 pub record FreeOk (h : Header) : Type 0 where
   pub kind-is : h .kind ≡ 0
@@ -65,17 +65,20 @@ filled-ok c h e =
     let b = leb (h .epoch) c in
     let d = leb 1 (h .uid) in
     let u = leb (h .uid) mostNumber in
+    let j = leb jobsBoard (h .board) in
     let e1 = and-right k _ e in
     let e2 = and-right a _ e1 in
     let e3 = and-right b _ e2 in
     let e4 = and-right d _ e3 in
+    let e5 = and-right u _ e4 in
     record {
       filled = and-left k _ e;
       epoch-lo = leb-true 2 (h .epoch) (and-left a _ e1);
       epoch-hi = leb-true (h .epoch) c (and-left b _ e2);
       uid-lo = leb-true 1 (h .uid) (and-left d _ e3);
       uid-hi = leb-true (h .uid) mostNumber (and-left u _ e4);
-      board-is = eqb-true (h .board) jobsBoard (and-right u _ e4);
+      board-lo = leb-true jobsBoard (h .board) (and-left j _ e5);
+      board-hi = leb-true (h .board) queueBoard (and-right j _ e5);
     }
 
 free-ok : (h : Header) → blankHeader h ≡ true → FreeOk h
@@ -136,7 +139,7 @@ says-shape l z =
 
 -- .. and back
 pub says-accepted : (l : List ℕ) → Accepts l → imageCheck l ≡ Accepted
-unfolding imageCheck clockOk nameless unnamed
+unfolding imageCheck clockOk nameless
 says-accepted l a =
     let n = slotsOf l in
     let w = widthOf l in

@@ -44,7 +44,10 @@ fn filled_header(h: Header, c: u32) -> bool
         if image::shape::MOST_NUMBER < h.uid {
             return false;
         }
-        h.board == Header::JOBS
+        if h.board < Header::JOBS {
+            return false;
+        }
+        h.board <= Header::QUEUE
     } else {
         false
     }
@@ -82,7 +85,8 @@ fn nameless_at(img: &[u32], flags: &[bool; 1024], n: usize, w: usize, s: usize) 
     ensures { λ r. ⌜ r ≡ nameless (now (img .entry)) n w s ⌝ }
 {
     if flags[s] {
-        image::contents::key_at(img, n, w, s) == 0
+        let name = image::name::name_at(img, n, w, s);
+        image::name::bad_name(name)
     } else {
         false
     }

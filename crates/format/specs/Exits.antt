@@ -39,7 +39,7 @@ pub fresh-done : (l : List ℕ) (n w : ℕ) {l′ : List ℕ} → length l ≡ i
 unfolding freshImage
 fresh-done l n w b e = rw (e, b)
 
-pub store-done : (len n w : ℕ) {a b d : List ℕ} → a ≡ freshImage n w → b ≡ freshImage n w → d ≡ blank len n 1 → store a b d ≡ freshStore len n w
+pub store-done : (len n w : ℕ) {a b d : List ℕ} → a ≡ freshImage n w → b ≡ freshImage n w → d ≡ blank len n 1 1 → store a b d ≡ freshStore len n w
 unfolding freshStore
 store-done len n w p q r = rw (p, q, r)
 

@@ -1,4 +1,5 @@
 -- 01: "A fresh store has clock 2, every other word after word 1 zero, next uid 1, nothing open, retired, waiting or underway."
+-- 02, No. 3: "an order number given by the store .., 1 first"
 use Prim.Native.Nat.{ℕ}
 use mathlib.Core.Bool.{not, _&&_}
 use mathlib.Core.List.{List}
@@ -22,4 +23,4 @@ format st n w =
     (refuse (not (sizesOk n w && (eqb (length (st .working)) (imageWords n w) && (eqb (length (st .persistent)) (imageWords n w)
     && threadsOk (length (st .transient)) n)))) BadSizes Accepted)
     Refused st
-    (outcome Accepted (freshImage n w) (freshImage n w) (blank (length (st .transient)) n 1))
+    (outcome Accepted (freshImage n w) (freshImage n w) (blank (length (st .transient)) n 1 1))

@@ -26,7 +26,7 @@ formatFits working persistent transient n w =
     sizesOk n w && (eqb working (imageWords n w) && (eqb persistent (imageWords n w) && threadsOk transient n))
 
 unfoldable pub freshStore : ℕ → ℕ → ℕ → Store
-freshStore transient n w = store (freshImage n w) (freshImage n w) (blank transient n 1)
+freshStore transient n w = store (freshImage n w) (freshImage n w) (blank transient n 1 1)
 
 pub format-is : (st : Store) (n w : ℕ)
     → format st n w ≡ afterCheck (refuse (not (formatFits (length (st .working)) (length (st .persistent)) (length (st .transient)) n w)) BadSizes Accepted) Refused st (record { reply = Accepted; store = freshStore (length (st .transient)) n w })

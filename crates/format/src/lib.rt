@@ -47,7 +47,7 @@ fn set_store(
 {
     set_fresh(working, slots, words);
     set_fresh(persistent, slots, words);
-    transient::notes::set_blank(transient, slots, 1);
+    transient::notes::set_blank(transient, slots, 1, 1);
 }
 
 // Makes a store of these sizes in the memory lent, whatever it holds.

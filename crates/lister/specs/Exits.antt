@@ -1,18 +1,20 @@
 -- The ways out of this program's functions: a law for each.
 use Prim.Native.Nat.{ℕ, zero, suc, _+_, _*_, _-_, _≤_, _<_}
-use mathlib.Core.Path.{_≡_}
+use mathlib.Core.Path.{_≡_, refl}
 use mathlib.Core.Bool.{Bool, true, false}
 use mathlib.Core.Logic.{⊎-elim}
 use mathlib.Core.List.{List, [], _∷_, _++_, append-assoc, append-nil}
 use lib.ListN.{length, getD, take, drop, length-append}
+use lib.Dec.{eqb}
+use borrow.Author.Tests.{eq-eqb, ne-eqb}
 use native.Mathlib.Numerals.{add-one}
 use native.Mathlib.Omega.{arith}
 use Rattle.search.specs.Bools.{cases}
 use Rattle.text.specs.Text.{ascii, decimal, spaced}
 use Rattle.text.specs.Putting.{Appended, Spelt, put-none, put-both, line-of, decimal-short, spaced-short, figure-ends}
 use Rattle.reply.specs.declared.Refusal.{Refusal}
-use Rattle.image.specs.Layout.{contentsAt, contents, slotsOf, widthOf, clockOf}
-use Rattle.image.specs.Requires.{Sized, Slot, slot, slot-of}
+use Rattle.image.specs.Layout.{queueBoard, contentsAt, header, contents, slotsOf, widthOf, clockOf}
+use Rattle.image.specs.Requires.{boardAt, Sized, Slot, slot, slot-of, slot-header}
 use Rattle.image.specs.Laws.{length-contents, part-is}
 use Rattle.survival.specs.Survivors.{survivor, survivorCount}
 use Rattle.survival.specs.Requires.{SlotMarked, AllMarked, marks}
@@ -22,7 +24,7 @@ use Rattle.console.specs.declared.Input.the-variants.{Image, Refused}
 use Rattle.console.specs.Console.{refusedLine}
 use Rattle.console.specs.Requires.{Taken, printed-image, printed-refusal, takings}
 use Rattle.lister.specs.Printed.{headLine, slotLine, slotLines, imageListing, printedListing}
-use Rattle.lister.specs.Requires.{headFigures, slotText, listing, Listing}
+use Rattle.lister.specs.Requires.{headFigures, slotFigures, lineEnd, slotText, listing, Listing}
 
 -- ---- the first line
 module _ (x : ℕ) {before mid : List ℕ} {k : ℕ} (p : Appended before 0 (ascii "clock " ++ decimal x) mid k) where
@@ -58,12 +60,29 @@ module _ (clock y : ℕ) {before mid : List ℕ} {k : ℕ} (p : Appended before 
   head-is {after} {end} z = rw (← head-line-is clock y) (put-both p z)
 
 -- ---- the line of a slot
-slot-short : {l : List ℕ} {n w s : ℕ} → Slot l n w s → length (slotLine s (contents l n w s)) ≤ 210
-unfolding slotLine
-slot-short {l} {n} {w} {s} z =
+figures-short : {l : List ℕ} {n w s : ℕ} → Slot l n w s → length (slotFigures s (contents l n w s)) ≤ 209
+unfolding slotFigures
+figures-short {l} {n} {w} {s} z =
     let words = contents l n w s in
-    rw (length-append (decimal s ++ spaced words) (10 ∷ []), length-append (decimal s) (spaced words))
+    rw (length-append (decimal s) (spaced words))
     (omega (arith, decimal-short s, spaced-short words, length-contents z, z .sized .sizes .width-hi))
+
+end-short : (board : ℕ) → length (lineEnd board) ≤ 7
+unfolding lineEnd
+end-short board =
+    ⊎-elim
+    (λ (t : eqb board queueBoard ≡ true). rw t (omega arith))
+    (λ (f : eqb board queueBoard ≡ false). rw f (omega arith))
+    (cases (eqb board queueBoard))
+
+line-is : (board s : ℕ) (words : List ℕ) → slotLine board s words ≡ slotFigures s words ++ lineEnd board
+unfolding slotLine slotFigures lineEnd
+line-is board s words = refl
+
+slot-short : {l : List ℕ} {n w s : ℕ} (board : ℕ) → Slot l n w s → length (slotLine board s (contents l n w s)) ≤ 216
+slot-short {l} {n} {w} {s} board z =
+    let words = contents l n w s in
+    rw (line-is board s words, length-append (slotFigures s words) (lineEnd board)) (omega (arith, figures-short z, end-short board))
 
 module _ {l : List ℕ} {n w s b : ℕ} (z : Slot l n w s) (at : b ≡ contentsAt n w s) where
   pub slot-end : b + w ≤ length l
@@ -76,19 +95,32 @@ module _ {l : List ℕ} {n w s b : ℕ} (z : Slot l n w s) (at : b ≡ contentsA
     pub slot-room : from + 256 ≤ length before → k + 21 * length (take (b + w - b) (drop b l)) ≤ length a
     slot-room room = omega (arith, words-few, p .ends, p .long, decimal-short s)
 
-    module _ {m : List ℕ} {j : ℕ} (q : Appended a k (spaced (take (b + w - b) (drop b l))) m j) where
-      pub slot-newline : from + 256 ≤ length before → j + 1 ≤ length m
-      slot-newline room = omega (arith, words-few, p .ends, p .long, q .ends, q .long, decimal-short s, spaced-short (take (b + w - b) (drop b l)))
+    pub figures-is : {m : List ℕ} {j : ℕ} → Appended a k (spaced (take (b + w - b) (drop b l))) m j → Appended before from (slotFigures s (contents l n w s)) m j
+    unfolding slotFigures
+    figures-is {m} {j} q = let q′ : Appended a k (spaced (contents l n w s)) m j = rw (part-is l n w s at) at q in put-both p q′
 
-      pub slot-is : {after : List ℕ} {end : ℕ} → Appended m j (10 ∷ []) after end → Appended before from (slotLine s (contents l n w s)) after end
-      unfolding slotLine
-      slot-is y =
-          let q′ : Appended a k (spaced (contents l n w s)) m j = rw (part-is l n w s at) at q in
-          put-both (put-both p q′) y
+module _ (board : ℕ) {before after : List ℕ} {at end : ℕ} where
+  pub end-entry : board ≡ queueBoard → Appended before at (ascii " queue\n") after end → Appended before at (lineEnd board) after end
+  unfolding lineEnd
+  end-entry e p = rw (eq-eqb board queueBoard e) p
+
+  pub end-job : (board ≡ queueBoard → ⊥) → Appended before at (ascii "\n") after end → Appended before at (lineEnd board) after end
+  unfolding lineEnd
+  end-job e p = rw (ne-eqb board queueBoard e) p
+
+module _ {l : List ℕ} {n w s : ℕ} (z : Slot l n w s) (from : ℕ) {before m : List ℕ} {j : ℕ} (p : Appended before from (slotFigures s (contents l n w s)) m j) where
+  pub end-room : from + 256 ≤ length before → j + 7 ≤ length m
+  end-room room = omega (arith, p .ends, p .long, figures-short z)
+
+  pub slot-is : {board : ℕ} {after : List ℕ} {end : ℕ} → board ≡ boardAt l s → Appended m j (lineEnd board) after end
+      → Appended before from (slotLine (header l s .board) s (contents l n w s)) after end
+  unfolding header
+  slot-is e y = rw (line-is (boardAt l s) s (contents l n w s), ← e) (put-both p y)
 
 -- ---- a slot's text, by its flag
 module _ (l : List ℕ) (n w s : ℕ) (flags : List Bool) (z : SlotMarked l n w s flags) {before : List ℕ} {from : ℕ} where
-  pub text-line : {after : List ℕ} {end : ℕ} → getD flags s false ≡ true → Appended before from (slotLine s (contents l n w s)) after end → Appended before from (slotText l n w s) after end
+  pub text-line : {after : List ℕ} {end : ℕ} → getD flags s false ≡ true → Appended before from (slotLine (header l s .board) s (contents l n w s)) after end
+      → Appended before from (slotText l n w s) after end
   unfolding slotText
   text-line t p = rw (flag-is (z .flagged) (z .slot .within) t) p
 
@@ -108,8 +140,8 @@ lines-short z zero h = omega arith
 lines-short {l} {n} {w} z (suc s) h =
     ⊎-elim
     (λ (t : survivor l n s ≡ true).
-    rw (t, length-append (slotLines l n w s) (slotLine s (contents l n w s)))
-    (omega (arith, lines-short z s (omega arith), slot-short (slot {s = s} z (omega arith)))))
+    rw (t, length-append (slotLines l n w s) (slotLine (header l s .board) s (contents l n w s)))
+    (omega (arith, lines-short z s (omega arith), slot-short (header l s .board) (slot {s = s} z (omega arith)))))
     (λ (f : survivor l n s ≡ false). rw (f, append-nil (slotLines l n w s)) (omega (arith, lines-short z s (omega arith))))
     (cases (survivor l n s))
 
@@ -156,6 +188,6 @@ module _ (bytes : List ℕ) {words : List ℕ} {r : Input} {before after : List 
   unfolding printedListing
   bytes-refused e s = printed-refusal bytes imageListing t e s
 
-pub ruleset slots = (slot, slot-of, marks, slot-end, slot-room, slot-newline, slot-is, text-line, text-none, listing-start, listing-room, listing-next, listing-end)
+pub ruleset slots = (slot, slot-of, slot-header, marks, slot-end, slot-room, figures-is, end-entry, end-job, end-room, slot-is, text-line, text-none, listing-start, listing-room, listing-next, listing-end)
 
 pub ruleset laws = (marks, takings, head-room, head-put, head-end, head-is, lines-room, listing-is, image-listed, bytes-listed, bytes-refused)

@@ -1,17 +1,18 @@
 // The image lister (01): reads an image from standard input and prints its clock and its survivors.
 use console::Input;
+use image::header::Header;
 use libc::STDOUT_FILENO;
 ghost use mathlib.Core.Path.{_≡_};
 ghost use Prim.Native.Nat.{_+_, _*_, _≤_};
 ghost use lib.ListN.{length};
 ghost use Rattle.text.specs.Putting.{Appended, Spelt};
 ghost use Rattle.reply.specs.declared.Check.the-variants.{Accepted};
-ghost use Rattle.image.specs.Layout.{contents};
+ghost use Rattle.image.specs.Layout.{header, contents};
 ghost use Rattle.image.specs.Requires.{Sized, Slot};
 ghost use Rattle.survival.specs.Requires.{SlotMarked, AllMarked};
 ghost use Rattle.acceptance.specs.Accept.{imageCheck};
 ghost use Rattle.lister.specs.Printed.{headLine, slotLine, slotLines, imageListing, printedListing};
-ghost use Rattle.lister.specs.Requires.{headFigures, slotText, listing};
+ghost use Rattle.lister.specs.Requires.{headFigures, slotFigures, lineEnd, slotText, listing};
 
 fn put_figures(out: &mut [u8], clock: u32, survivors: usize) -> usize
     requires { ⌜ 262208 ≤ length (now out) ⌝ }
@@ -30,16 +31,35 @@ fn put_head(out: &mut [u8], clock: u32, survivors: usize) -> usize
 }
 
 // Slot, key and value words.
-fn put_slot(out: &mut [u8], at: usize, img: &[u32], n: usize, w: usize, s: usize) -> usize
+fn put_words(out: &mut [u8], at: usize, img: &[u32], n: usize, w: usize, s: usize) -> usize
     requires { ⌜ Slot (now img) n w s ⌝ }
     requires { ⌜ at + 256 ≤ length (now out) ⌝ }
-    ensures { λ r. ⌜ Appended (now (out .entry)) at (slotLine s (contents (now (img .entry)) n w s)) (now (out .exit)) r ⌝ }
+    ensures { λ r. ⌜ Appended (now (out .entry)) at (slotFigures s (contents (now (img .entry)) n w s)) (now (out .exit)) r ⌝ }
 {
     let b = image::contents::contents_at(n, w, s);
     let e = b + w;
     let k = text::put_number(out, at, s as u64);
-    let j = text::put_spaced(out, k, &img[b..e]);
-    text::put(out, j, b"\n")
+    text::put_spaced(out, k, &img[b..e])
+}
+
+// The end of a line, which tells an entry of the queue from a job.
+fn put_end(out: &mut [u8], at: usize, board: u32) -> usize
+    requires { ⌜ at + 7 ≤ length (now out) ⌝ }
+    ensures { λ r. ⌜ Appended (now (out .entry)) at (lineEnd board) (now (out .exit)) r ⌝ }
+{
+    if board == Header::QUEUE {
+        return text::put(out, at, b" queue\n");
+    }
+    text::put(out, at, b"\n")
+}
+
+fn put_slot(out: &mut [u8], at: usize, img: &[u32], n: usize, w: usize, s: usize) -> usize
+    requires { ⌜ Slot (now img) n w s ⌝ }
+    requires { ⌜ at + 256 ≤ length (now out) ⌝ }
+    ensures { λ r. ⌜ Appended (now (out .entry)) at (slotLine (header (now (img .entry)) s .board) s (contents (now (img .entry)) n w s)) (now (out .exit)) r ⌝ }
+{
+    let k = put_words(out, at, img, n, w, s);
+    put_end(out, k, image::header::board_at(img, n, s))
 }
 
 // The line of a slot that survives; nothing of any other.

@@ -15,7 +15,7 @@ use Rattle.search.specs.declared.Found.the-variants.{At, Nothing}
 use Rattle.reply.specs.declared.Check.{Check}
 use Rattle.reply.specs.declared.Check.the-variants.{Accepted, Refused}
 use Rattle.reply.specs.declared.Refusal.{Refusal}
-use Rattle.image.specs.Layout.{slotsOf, freeHeader}
+use Rattle.image.specs.Layout.{slotsOf, widthOf, freeHeader}
 use Rattle.image.specs.Line.{headerLine, storeLine}
 use Rattle.transient.specs.Store.{Store, store, Outcome, afterCheck}
 use Rattle.survival.specs.Survivors.{survivor}
@@ -53,7 +53,7 @@ pub record Rebuilt (l : List ℕ) (words : ℕ) (st : Store) : Type 0 where
   pub same : SameSurvivors l (st .persistent)
   pub accepted : imageCheck (st .persistent) ≡ Accepted
   pub just : (s : ℕ) → s < slotsOf l → filledAt (st .persistent) s ≡ survivor l (slotsOf l) s
-  pub rest : st ≡ finished (st .persistent) words (slotsOf l)
+  pub rest : st ≡ finished (st .persistent) words (slotsOf l) (widthOf l)
 
 -- ---- survivors that stay the same from image to image
 same-refl : (l : List ℕ) → SameSurvivors l l
@@ -102,18 +102,18 @@ one-further {l} {l′} {i} {s} o next =
       lowered = omega arith;
     }
 
-arrived : {l l′ : List ℕ} {i : ℕ} (words : ℕ) → OnTheWay l i l′ → nextFreed l′ (slotsOf l′) ≡ Nothing → Rebuilt l words (finished l′ words (slotsOf l′))
+arrived : {l l′ : List ℕ} {i : ℕ} (words : ℕ) → OnTheWay l i l′ → nextFreed l′ (slotsOf l′) ≡ Nothing → Rebuilt l words (finished l′ words (slotsOf l′) (widthOf l′))
 unfolding finished
 arrived {l} {l′} words o none =
     let just : (s : ℕ) → s < slotsOf l → survivor l′ (slotsOf l) s ≡ filledAt l′ s = rw (o .same .slots) at (done-survivors l′ none) in
-    record { same = o .same; accepted = o .ok; just = λ s h. sym (just s h) ∙ o .same .survivors s h; rest = rw (o .same .slots) }
+    record { same = o .same; accepted = o .ok; just = λ s h. sym (just s h) ∙ o .same .survivors s h; rest = rw (o .same .slots, o .same .width) }
 
 way-bound : {l l′ : List ℕ} {i : ℕ} → OnTheWay l i l′ → i ≤ slotsOf l
 way-bound {l} o = omega (arith, count-top (filledAt l) (slotsOf l))
 
 -- ---- one call on an accepted image: it does not decline
 not-declined : (w l t : List ℕ) → imageCheck l ≡ Accepted → lengthsFit (length w) l (length t) ≡ true
-    → recover (store w l t) ≡ freeing (nextFreed l (slotsOf l)) (store w l t) (slotsOf l)
+    → recover (store w l t) ≡ freeing (nextFreed l (slotsOf l)) (store w l t) (slotsOf l) (widthOf l)
 unfolding recover recoverCheck
 not-declined w l t ok fit = rw (fit, ok)
 
@@ -134,7 +134,7 @@ module _ (l : List ℕ) (ok : imageCheck l ≡ Accepted) (any : AnyWords l) wher
       l′ : List ℕ
       l′ = lasting any i
 
-      is : call any i ≡ freeing (nextFreed l′ (slotsOf l′)) (store (any .working i) l′ (any .transient i)) (slotsOf l′)
+      is : call any i ≡ freeing (nextFreed l′ (slotsOf l′)) (store (any .working i) l′ (any .transient i)) (slotsOf l′) (widthOf l′)
       is = not-declined (any .working i) l′ (any .transient i) (o .ok) (rw (o .same .long, o .same .slots) (any .fit i))
 
       go : ((s : ℕ) × (nextFreed l′ (slotsOf l′) ≡ At s)) ⊎ (nextFreed l′ (slotsOf l′) ≡ Nothing) → Call i
@@ -182,13 +182,19 @@ pub recover-keeps : (st : Store) (r : Refusal) → recover st .reply ≡ Decline
 unfolding recover
 recover-keeps st r = go (recoverCheck st)
   where
-    freed : (f : Found) → freeing f st (slotsOf (st .persistent)) .reply ≡ Declined r → freeing f st (slotsOf (st .persistent)) .store ≡ st
+    n : ℕ
+    n = slotsOf (st .persistent)
+
+    w : ℕ
+    w = widthOf (st .persistent)
+
+    freed : (f : Found) → freeing f st n w .reply ≡ Declined r → freeing f st n w .store ≡ st
     freed (At s) d = let z : _≡_ {A = ℕ} 0 1 = cc in absurd (omega arith)
     freed Nothing d = let z : _≡_ {A = ℕ} 0 1 = cc in absurd (omega arith)
 
     next : Outcome Recovery
-    next = freeing (nextFreed (st .persistent) (slotsOf (st .persistent))) st (slotsOf (st .persistent))
+    next = freeing (nextFreed (st .persistent) n) st n w
 
     go : (k : Check) → afterCheck k Declined st next .reply ≡ Declined r → afterCheck k Declined st next .store ≡ st
     go (Refused q) d = refl
-    go Accepted d = freed (nextFreed (st .persistent) (slotsOf (st .persistent))) d
+    go Accepted d = freed (nextFreed (st .persistent) n) d

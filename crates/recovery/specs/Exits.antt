@@ -1,11 +1,11 @@
 -- The ways out of recover's functions.
-use Prim.Native.Nat.{ℕ, _+_, _≤_, _<_, _^_}
+use Prim.Native.Nat.{ℕ, zero, suc, _+_, _≤_, _<_, _^_}
 use mathlib.Core.Path.{_≡_, refl, sym, ap, _∙_}
 use mathlib.Core.Bool.{Bool, true, false, not, _&&_}
 use mathlib.Core.Logic.{⊎-elim}
 use mathlib.Core.List.{List}
 use lib.ListN.{length, getD}
-use lib.Dec.{leb, eqb}
+use lib.Dec.{ltb, leb, eqb}
 use mir.Val.{Fits}
 use mir.Syntax.{w32}
 use borrow.Author.Tests.{lt-ltb, le-ltb, eq-eqb, ne-eqb, eqb-true, leb-true, not-false}
@@ -21,23 +21,25 @@ use Rattle.reply.specs.declared.Refusal.{Refusal}
 use Rattle.reply.specs.declared.Refusal.the-variants.{BadSizes, BadClock}
 use Rattle.reply.specs.Refusals.{refuse, byCheck, not-refused}
 use Rattle.image.specs.declared.header.Header.{Header}
-use Rattle.image.specs.Layout.{mostSlots, mostNumber, filledKind, header, slotsOf, widthOf, clockOf, shapeOk, clockOk, freeHeader}
+use Rattle.image.specs.Layout.{mostSlots, mostNumber, queueBoard, filledKind, header, keyAt, slotsOf, widthOf, clockOf, shapeOk, clockOk, freeHeader}
 use Rattle.image.specs.Line.{headerLine, stored, storeLine}
-use Rattle.image.specs.Requires.{HeaderFits}
+use Rattle.image.specs.declared.name.Name.{Name}
+use Rattle.image.specs.Name.{nameAt, misnamed, name-is, misnamed-false}
+use Rattle.image.specs.Requires.{HeaderFits, Slot}
 use Rattle.image.specs.Laws.{shaped, stored-whole}
 use Rattle.transient.specs.Layout.{threadsOf, threadsOk, blank}
 use Rattle.transient.specs.Store.{store, Outcome, outcome}
 use Rattle.transient.specs.Requires.{Blanking}
-use Rattle.survival.specs.Survivors.{survivor}
-use Rattle.survival.specs.Requires.{keptAnti, Headers, Marked, AllMarked, FlagAt, headers-of, header-in, flag-at, flag-header, flag-of, marks}
+use Rattle.survival.specs.Survivors.{survivor, survivesOn}
+use Rattle.survival.specs.Requires.{keptAnti, Headers, Marked, AllMarked, SlotMarked, FlagAt, headers-of, header-in, slot-marked, flag-at, flag-header, flag-of, marks}
 use Rattle.survival.specs.Laws.{flag-is}
-use Rattle.acceptance.specs.Requires.{headCheck, slotsCheck}
+use Rattle.acceptance.specs.Requires.{headCheck, nameless, slotsCheck}
 use Rattle.acceptance.specs.Laws.{image-is}
 use Rattle.acceptance.specs.Sound.{Sound, sound, uid-top}
 use Rattle.recovery.specs.declared.Recovery.{Recovery}
 use Rattle.recovery.specs.declared.Recovery.the-variants.{WentOn, Done, Declined}
-use Rattle.recovery.specs.Recover.{antiAt, stale, nextFreed, nextUid, lengthsFit, recoverCheck, freeing, recover}
-use Rattle.recovery.specs.Requires.{uidOf, recoverEntryCheck, finished, Uids, Finishing, Judged, recoverSized}
+use Rattle.recovery.specs.Recover.{antiAt, stale, nextFreed, nextUid, nextOrder, lengthsFit, recoverCheck, freeing, recover}
+use Rattle.recovery.specs.Requires.{uidOf, recoverEntryCheck, finished, Uids, Orders, Finishing, Judged, recoverSized}
 
 -- ---- what is freed next
 pub anti-is : (l : List ℕ) (s : ℕ) {c : ℕ} {r : Bool} → c ≡ clockOf l → r ≡ keptAnti c (header l s) → r ≡ antiAt l s
@@ -104,31 +106,83 @@ pub uid-is : (l : List ℕ) (n : ℕ) {b : ℕ} → b ≡ largest (survivor l n)
 unfolding nextUid
 uid-is l n e = rw e
 
+-- ---- the next order number
+module _ (l : List ℕ) (n w s : ℕ) {name : Name} (at : name ≡ nameAt l n w s) where
+  board-read : header l s .board ≡ name .board
+  board-read = ap (λ (x : Name). x .board) (sym (at ∙ name-is l n w s))
+
+  key-read : keyAt l n w s ≡ name .key
+  key-read = ap (λ (x : Name). x .key) (sym (at ∙ name-is l n w s))
+
+module _ (l : List ℕ) (n w s b : ℕ) (flags : List Bool) (z : SlotMarked l n w s flags) where
+  pub order-miss : getD flags s false ≡ false → b ≡ raised (survivesOn l n queueBoard) (keyAt l n w) s b
+  unfolding raised survivesOn
+  order-miss t = rw (flag-is (z .flagged) (z .slot .within) t)
+
+  module _ {name : Name} (t : getD flags s false ≡ true) (at : name ≡ nameAt l n w s) where
+    pub order-job : (name .board ≡ queueBoard → ⊥) → b ≡ raised (survivesOn l n queueBoard) (keyAt l n w) s b
+    unfolding raised survivesOn
+    order-job d = rw (flag-is (z .flagged) (z .slot .within) t, board-read l n w s at, ne-eqb (name .board) queueBoard d)
+
+    module _ (q : name .board ≡ queueBoard) where
+      pub order-up : b < name .key → name .key ≡ raised (survivesOn l n queueBoard) (keyAt l n w) s b
+      unfolding raised survivesOn
+      order-up u =
+          rw (flag-is (z .flagged) (z .slot .within) t, board-read l n w s at, eq-eqb (name .board) queueBoard q, key-read l n w s at, lt-ltb b (name .key) u)
+
+      pub order-level : name .key ≤ b → b ≡ raised (survivesOn l n queueBoard) (keyAt l n w) s b
+      unfolding raised survivesOn
+      order-level u =
+          rw (flag-is (z .flagged) (z .slot .within) t, board-read l n w s at, eq-eqb (name .board) queueBoard q, key-read l n w s at, le-ltb b (name .key) u)
+
+-- the largest is no larger than what bounds those that pass
+largest-below : (p : ℕ → Bool) (f : ℕ → ℕ) (top k : ℕ) → ((i : ℕ) → i < k → p i ≡ true → f i ≤ top) → largest p f k ≤ top
+unfolding largest
+largest-below p f top zero h = omega arith
+largest-below p f top (suc k) h =
+    ⊎-elim
+    (λ (t : p k && ltb (largest p f k) (f k) ≡ true). rw t (h k (omega arith) (and-left (p k) _ t)))
+    (λ (u : p k && ltb (largest p f k) (f k) ≡ false). rw u (largest-below p f top k (λ i l. h i (omega arith))))
+    (cases (p k && ltb (largest p f k) (f k)))
+
+pub order-fits : (l : List ℕ) (n w : ℕ) (flags : List Bool) {b : ℕ} → Orders l n w flags → b ≡ largest (survivesOn l n queueBoard) (keyAt l n w) n → Fits w32 (b + 1)
+order-fits l n w flags z e = omega (arith, largest-below (survivesOn l n queueBoard) (keyAt l n w) mostNumber n (z .orders), e)
+
+pub order-is : (l : List ℕ) (n w : ℕ) {b : ℕ} → b ≡ largest (survivesOn l n queueBoard) (keyAt l n w) n → b + 1 ≡ nextOrder l n w
+unfolding nextOrder
+order-is l n w e = rw e
+
+pub order-slot : {l : List ℕ} {n w s : ℕ} {flags : List Bool} → Orders l n w flags → s < n → SlotMarked l n w s flags
+order-slot z h = slot-marked (z .marked) h
+
+pub order-name : {l : List ℕ} {n w s : ℕ} {flags : List Bool} → SlotMarked l n w s flags → Slot l n w s
+order-name z = z .slot
+
 -- ---- the last call
-pub finish-marked : {wk l t : List ℕ} {flags : List Bool} {n : ℕ} → Finishing wk l t flags n → Marked l n flags
+pub finish-marked : {wk l t : List ℕ} {flags : List Bool} {n w : ℕ} → Finishing wk l t flags n w → Marked l n flags
 finish-marked z = z .uids .marked
 
-pub finish-header : (wk l t : List ℕ) (flags : List Bool) {n s : ℕ} {f : Found} → Finishing wk l t flags n → f ≡ nextFreed l n → f ≡ At s → HeaderFits l n s
-finish-header wk l t flags {n} {s} z e a = header-in (z .uids .marked .headers) (freed-below l n s (sym e ∙ a))
+pub finish-header : (wk l t : List ℕ) (flags : List Bool) {n w s : ℕ} {f : Found} → Finishing wk l t flags n w → f ≡ nextFreed l n → f ≡ At s → HeaderFits l n s
+finish-header wk l t flags {n} {w} {s} z e a = header-in (z .uids .marked .headers) (freed-below l n s (sym e ∙ a))
 
-pub finish-slots : {wk l t : List ℕ} {flags : List Bool} {n : ℕ} → Finishing wk l t flags n → n < 2 ^ 32
+pub finish-slots : {wk l t : List ℕ} {flags : List Bool} {n w : ℕ} → Finishing wk l t flags n w → n < 2 ^ 32
 finish-slots z = let h = z .uids .marked .headers .slots-hi in omega arith
 
-pub finish-blank : {wk l t : List ℕ} {flags : List Bool} {n m : ℕ} → Finishing wk l t flags n → m ≡ n → Blanking t m
+pub finish-blank : {wk l t : List ℕ} {flags : List Bool} {n w m : ℕ} → Finishing wk l t flags n w → m ≡ n → Blanking t m
 finish-blank z e = record { some = omega (arith, z .some); room = z .notes }
 
-pub finish-done : (wk l t : List ℕ) (n : ℕ) {u m : ℕ} {wk′ t′ : List ℕ} → length wk ≡ length l → u ≡ nextUid l n → wk′ ≡ stored wk 0 l (length l) → m ≡ n
-    → t′ ≡ blank (length t) m u → store wk′ l t′ ≡ finished l (length t) n
+pub finish-done : (wk l t : List ℕ) (n w : ℕ) {u o m : ℕ} {wk′ t′ : List ℕ} → length wk ≡ length l → u ≡ nextUid l n → o ≡ nextOrder l n w
+    → wk′ ≡ stored wk 0 l (length l) → m ≡ n → t′ ≡ blank (length t) m u o → store wk′ l t′ ≡ finished l (length t) n w
 unfolding finished
-finish-done wk l t n long e w m b =
+finish-done wk l t n w long e o k m b =
     let copy : stored wk 0 l (length l) ≡ l = ap (stored wk 0 l) (sym long) ∙ stored-whole wk l (sym long) in
-    rw (w, copy, b, e, m)
+    rw (k, copy, b, e, o, m)
 
-module _ (wk l t : List ℕ) (n : ℕ) {f : Found} (fr : f ≡ nextFreed l n) where
-  pub free-on : {s : ℕ} {h : Header} {l′ : List ℕ} → f ≡ At s → h ≡ freeHeader → l′ ≡ storeLine l (headerLine s h) → outcome WentOn wk l′ t ≡ freeing (nextFreed l n) (store wk l t) n
+module _ (wk l t : List ℕ) (n w : ℕ) {f : Found} (fr : f ≡ nextFreed l n) where
+  pub free-on : {s : ℕ} {h : Header} {l′ : List ℕ} → f ≡ At s → h ≡ freeHeader → l′ ≡ storeLine l (headerLine s h) → outcome WentOn wk l′ t ≡ freeing (nextFreed l n) (store wk l t) n w
   free-on e q p = rw (← fr, e, p, q)
 
-  pub free-done : {wk′ t′ : List ℕ} → f ≡ Nothing → store wk′ l t′ ≡ finished l (length t) n → outcome Done wk′ l t′ ≡ freeing (nextFreed l n) (store wk l t) n
+  pub free-done : {wk′ t′ : List ℕ} → f ≡ Nothing → store wk′ l t′ ≡ finished l (length t) n w → outcome Done wk′ l t′ ≡ freeing (nextFreed l n) (store wk l t) n w
   unfolding finished
   free-done {wk′} {t′} e p = rw (← fr, e) (ap (λ st. record { reply = Done; store = st }) p)
 
@@ -190,14 +244,28 @@ judged-headers z = headers-of (z .sized)
 pub judged-marked : {wk l t : List ℕ} {flags : List Bool} {n w : ℕ} → Judged wk l t n w → Marked l n flags → AllMarked l n w flags
 judged-marked z m = record { sized = z .sized; flagged = m .flagged }
 
+-- an entry that survives has its order number in range
+order-top : {l : List ℕ} {n w i : ℕ} → Sound l n w → i < n → survivesOn l n queueBoard i ≡ true → keyAt l n w i ≤ mostNumber
+unfolding nameless survivesOn
+order-top {l} {n} {w} {i} s h v =
+    let live = survivor l n i in
+    let on = eqb-true (header l i .board) queueBoard (and-right live _ v) in
+    let good : misnamed (nameAt l n w i) ≡ false = rw (and-left live _ v) at (s .named i h) in
+    let named = rw (name-is l n w i) at (misnamed-false (nameAt l n w i) good) in
+    named .top on
+
 pub judged-finishing : {wk l t : List ℕ} {flags : List Bool} {n w : ℕ} {k : Check} → Judged wk l t n w → Marked l n flags
-    → k ≡ slotsCheck l n w → k ≡ Accepted → Finishing wk l t flags n
+    → k ≡ slotsCheck l n w → k ≡ Accepted → Finishing wk l t flags n w
 judged-finishing {wk} {l} {t} {flags} {n} {w} z m c a =
     let s : Sound l n w = sound l n w (sym c ∙ a) in
     record {
       uids = record {
         marked = m;
         uids = λ i h. uid-top (clockOf l) (header l i) (s .all-proper i h);
+      };
+      orders = record {
+        marked = judged-marked z m;
+        orders = λ i h v. order-top s h v;
       };
       some = omega (arith, z .sized .sizes .slots-lo);
       same = z .same;
@@ -209,7 +277,7 @@ module _ (wk l t : List ℕ) (n w : ℕ) {k : Check} (c : k ≡ slotsCheck l n w
   unfolding recoverSized
   step-declines a = rw (← c, a)
 
-  pub step-goes : {r : Outcome Recovery} → k ≡ Accepted → r ≡ freeing (nextFreed l n) (store wk l t) n → r ≡ recoverSized (store wk l t) n w
+  pub step-goes : {r : Outcome Recovery} → k ≡ Accepted → r ≡ freeing (nextFreed l n) (store wk l t) n w → r ≡ recoverSized (store wk l t) n w
   unfolding recoverSized
   step-goes a h = rw (← c, a) h
 
@@ -231,4 +299,4 @@ module _ (wk l t : List ℕ) {k : Check} (c : k ≡ recoverEntryCheck (length wk
   unfolding recover recoverSized
   recover-goes n w a p q h = rw (recover-is wk l t, ← c, a, ← p, ← q) h
 
-pub ruleset steps = (tests, firsts, marks, climbs, flag-at, flag-header, flag-of, anti-is, stale-free, stale-survives, stale-anti, stale-yes, freed-stale, freed-anti, raise-miss, raise-up, raise-level, uid-fits, uid-is, finish-marked, finish-header, finish-slots, finish-blank, finish-done, free-on, free-done, entry-shape, entry-working, entry-threads, entry-head, entry-first, entry-slots, judged, judged-long, judged-marked, judged-headers, judged-finishing, step-declines, step-goes, recover-declines, recover-goes)
+pub ruleset steps = (tests, firsts, marks, climbs, flag-at, flag-header, flag-of, anti-is, stale-free, stale-survives, stale-anti, stale-yes, freed-stale, freed-anti, raise-miss, raise-up, raise-level, uid-fits, uid-is, order-miss, order-job, order-up, order-level, order-fits, order-is, order-slot, order-name, finish-marked, finish-header, finish-slots, finish-blank, finish-done, free-on, free-done, entry-shape, entry-working, entry-threads, entry-head, entry-first, entry-slots, judged, judged-long, judged-marked, judged-headers, judged-finishing, step-declines, step-goes, recover-declines, recover-goes)

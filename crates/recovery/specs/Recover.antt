@@ -11,11 +11,11 @@ use Rattle.search.specs.declared.Found.the-variants.{At, Nothing}
 use Rattle.reply.specs.declared.Check.{Check}
 use Rattle.reply.specs.declared.Refusal.the-variants.{BadSizes}
 use Rattle.reply.specs.Refusals.{refuse, declinedNumber}
-use Rattle.image.specs.Layout.{filledKind, header, slotsOf, clockOf, freeHeader}
+use Rattle.image.specs.Layout.{queueBoard, filledKind, header, keyAt, slotsOf, widthOf, clockOf, freeHeader}
 use Rattle.image.specs.Line.{headerLine, storeLine}
 use Rattle.transient.specs.Store.{Store, Outcome, outcome, afterCheck}
 use Rattle.transient.specs.Layout.{threadsOk, blank}
-use Rattle.survival.specs.Survivors.{kept, survivor}
+use Rattle.survival.specs.Survivors.{kept, survivor, survivesOn}
 use Rattle.acceptance.specs.Accept.{imageCheck}
 use Rattle.recovery.specs.declared.Recovery.{Recovery}
 use Rattle.recovery.specs.declared.Recovery.the-variants.{WentOn, Done, Declined}
@@ -37,6 +37,10 @@ nextFreed l n = whereFound (firstOf (stale l n) n) At (firstOf (antiAt l) n)
 unfoldable pub nextUid : List ℕ → ℕ → ℕ
 nextUid l n = largest (survivor l n) (λ s. header l s .uid) n + 1
 
+-- 02, No. 3: "After recovery it continues one above the largest surviving order number, from 1 if none."
+unfoldable pub nextOrder : List ℕ → ℕ → ℕ → ℕ
+nextOrder l n w = largest (survivesOn l n queueBoard) (keyAt l n w) n + 1
+
 -- "fresh and recover judge only the lengths of what they fill"
 unfoldable pub lengthsFit : ℕ → List ℕ → ℕ → Bool
 lengthsFit working l transient = eqb working (length l) && threadsOk transient (slotsOf l)
@@ -46,13 +50,15 @@ recoverCheck st = refuse (not (lengthsFit (length (st .working)) (st .persistent
 
 -- "frees the next such mark, leaves working and notes alone and replies went on. The call that finds none to free replies done;
 -- only there does working become a copy and are the notes set."
-abbrev pub freeing : Found → Store → ℕ → Outcome Recovery
-freeing (At s) st n = outcome WentOn (st .working) (storeLine (st .persistent) (headerLine s freeHeader)) (st .transient)
-freeing Nothing st n = outcome Done (st .persistent) (st .persistent) (blank (length (st .transient)) n (nextUid (st .persistent) n))
+abbrev pub freeing : Found → Store → ℕ → ℕ → Outcome Recovery
+freeing (At s) st n w = outcome WentOn (st .working) (storeLine (st .persistent) (headerLine s freeHeader)) (st .transient)
+freeing Nothing st n w =
+    outcome Done (st .persistent) (st .persistent) (blank (length (st .transient)) n (nextUid (st .persistent) n) (nextOrder (st .persistent) n w))
 
 unfoldable pub recover : Store → Outcome Recovery
 recover st =
-    afterCheck (recoverCheck st) Declined st (freeing (nextFreed (st .persistent) (slotsOf (st .persistent))) st (slotsOf (st .persistent)))
+    let n = slotsOf (st .persistent) in
+    afterCheck (recoverCheck st) Declined st (freeing (nextFreed (st .persistent) n) st n (widthOf (st .persistent)))
 
 -- the reply as one number: 0 went on, 1 done, or 2^32 plus the refusal
 abbrev pub recoveryNumber : Recovery → ℕ

@@ -1,19 +1,20 @@
--- What functions inside require: uids in range, and what refusals 1 and 2 of recover leave.
+-- What functions inside require: uids and order numbers in range, and what refusals 1 and 2 of recover leave.
 use Prim.Native.Nat.{ℕ, _≤_, _<_}
 use mathlib.Core.Path.{_≡_}
-use mathlib.Core.Bool.{Bool, not}
+use mathlib.Core.Bool.{Bool, true, not}
 use mathlib.Core.List.{List}
 use lib.ListN.{length}
 use Rattle.reply.specs.declared.Check.{Check}
 use Rattle.reply.specs.declared.Refusal.the-variants.{BadSizes}
 use Rattle.reply.specs.Refusals.{refuse}
-use Rattle.image.specs.Layout.{mostNumber, header}
+use Rattle.image.specs.Layout.{mostNumber, queueBoard, header, keyAt}
 use Rattle.image.specs.Requires.{Sized}
 use Rattle.transient.specs.Layout.{headWords, blank}
 use Rattle.transient.specs.Store.{Store, store, Outcome, afterCheck}
-use Rattle.survival.specs.Requires.{Marked}
+use Rattle.survival.specs.Survivors.{survivesOn}
+use Rattle.survival.specs.Requires.{Marked, AllMarked}
 use Rattle.acceptance.specs.Requires.{headCheck, slotsCheck}
-use Rattle.recovery.specs.Recover.{nextFreed, nextUid, lengthsFit, freeing}
+use Rattle.recovery.specs.Recover.{nextFreed, nextUid, nextOrder, lengthsFit, freeing}
 use Rattle.recovery.specs.declared.Recovery.{Recovery}
 use Rattle.recovery.specs.declared.Recovery.the-variants.{Declined}
 
@@ -28,16 +29,21 @@ pub record Uids (l : List ℕ) (n : ℕ) (flags : List Bool) : Type 0 where
   pub marked : Marked l n flags
   pub uids : (s : ℕ) → s < n → uidOf l s ≤ mostNumber
 
+pub record Orders (l : List ℕ) (n w : ℕ) (flags : List Bool) : Type 0 where
+  pub marked : AllMarked l n w flags
+  pub orders : (s : ℕ) → s < n → survivesOn l n queueBoard s ≡ true → keyAt l n w s ≤ mostNumber
+
 -- ---- the last call
-pub record Finishing (wk l t : List ℕ) (flags : List Bool) (n : ℕ) : Type 0 where
+pub record Finishing (wk l t : List ℕ) (flags : List Bool) (n w : ℕ) : Type 0 where
   pub uids : Uids l n flags
+  pub orders : Orders l n w flags
   pub some : 1 ≤ n
   pub same : length wk ≡ length l
   pub notes : headWords ≤ length t
 
 -- what it leaves, in the words of `freeing`
-unfoldable pub finished : List ℕ → ℕ → ℕ → Store
-finished l transient n = store l l (blank transient n (nextUid l n))
+unfoldable pub finished : List ℕ → ℕ → ℕ → ℕ → Store
+finished l transient n w = store l l (blank transient n (nextUid l n) (nextOrder l n w))
 
 -- ---- past refusals 1 and 2
 pub record Judged (wk l t : List ℕ) (n w : ℕ) : Type 0 where
@@ -47,4 +53,4 @@ pub record Judged (wk l t : List ℕ) (n w : ℕ) : Type 0 where
 
 -- what is left of a call then
 unfoldable pub recoverSized : Store → ℕ → ℕ → Outcome Recovery
-recoverSized st n w = afterCheck (slotsCheck (st .persistent) n w) Declined st (freeing (nextFreed (st .persistent) n) st n)
+recoverSized st n w = afterCheck (slotsCheck (st .persistent) n w) Declined st (freeing (nextFreed (st .persistent) n) st n w)

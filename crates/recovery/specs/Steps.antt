@@ -19,7 +19,7 @@ use Rattle.reply.specs.declared.Check.the-variants.{Accepted}
 use Rattle.image.specs.Layout.{filledKind, header, contents, valueAt, slotsOf, widthOf, clockOf, freeHeader}
 use Rattle.image.specs.Line.{headerLine, storeLine}
 use Rattle.image.specs.declared.name.Name.{Name}
-use Rattle.image.specs.Name.{Named, nameAt, name-same, unnamed-false}
+use Rattle.image.specs.Name.{Named, nameAt, name-same, misnamed-false}
 use Rattle.image.specs.Requires.{header-fits, sized-after}
 use Rattle.image.specs.Laws.{length-store, front-past-header, header-same, header-other, contents-past-header, name-past-header, value-past-header}
 use Rattle.survival.specs.Survivors.{survivor}
@@ -187,7 +187,7 @@ done-survivors l e s h =
 pub survivor-named : (l : List ℕ) → imageCheck l ≡ Accepted → (s : ℕ) → s < slotsOf l → survivor l (slotsOf l) s ≡ true → Named (nameAt l (slotsOf l) (widthOf l) s)
 unfolding nameless
 survivor-named l ok s h v =
-    unnamed-false (nameAt l (slotsOf l) (widthOf l) s) (refuted _ (λ e. never (nameless l (slotsOf l) (widthOf l) s) (and-both v e) (accepted-says l ok .sound .named s h)))
+    misnamed-false (nameAt l (slotsOf l) (widthOf l) s) (refuted _ (λ e. never (nameless l (slotsOf l) (widthOf l) s) (and-both v e) (accepted-says l ok .sound .named s h)))
 
 name-once : (l : List ℕ) → imageCheck l ≡ Accepted → (s t : ℕ) → s < slotsOf l → t < s → survivor l (slotsOf l) s ≡ true → survivor l (slotsOf l) t ≡ true
     → nameAt l (slotsOf l) (widthOf l) t ≢ nameAt l (slotsOf l) (widthOf l) s

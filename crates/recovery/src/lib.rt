@@ -7,11 +7,12 @@ ghost use mathlib.Core.Path.{_≡_};
 ghost use lib.ListN.{length};
 ghost use Rattle.search.specs.First.{firstOf};
 ghost use Rattle.search.specs.Largest.{raised};
+ghost use Rattle.image.specs.Layout.{queueBoard, keyAt};
 ghost use Rattle.transient.specs.Store.{store, outcome};
-ghost use Rattle.survival.specs.Survivors.{survivor};
-ghost use Rattle.recovery.specs.Recover.{antiAt, stale, nextFreed, nextUid, freeing, recover};
-ghost use Rattle.survival.specs.Requires.{FlagAt, Headers, HeaderOf, Marked};
-ghost use Rattle.recovery.specs.Requires.{uidOf, recoverEntryCheck, finished, Uids, Finishing, Judged, recoverSized};
+ghost use Rattle.survival.specs.Survivors.{survivor, survivesOn};
+ghost use Rattle.recovery.specs.Recover.{antiAt, stale, nextFreed, nextUid, nextOrder, freeing, recover};
+ghost use Rattle.survival.specs.Requires.{FlagAt, Headers, HeaderOf, Marked, SlotMarked};
+ghost use Rattle.recovery.specs.Requires.{uidOf, recoverEntryCheck, finished, Uids, Orders, Finishing, Judged, recoverSized};
 
 // One recover call's answer: "went on", "done", or a refusal.
 pub enum Recovery {
@@ -105,6 +106,36 @@ fn next_uid(img: &[u32], flags: &[bool; 1024], n: usize) -> u32
     best + 1
 }
 
+fn raise_order(img: &[u32], flags: &[bool; 1024], n: usize, w: usize, s: usize, best: u32) -> u32
+    requires { ⌜ SlotMarked (now img) n w s (now flags) ⌝ }
+    ensures { λ r. ⌜ r ≡ raised (survivesOn (now (img .entry)) n queueBoard) (keyAt (now (img .entry)) n w) s best ⌝ }
+{
+    if flags[s] {
+        let name = image::name::name_at(img, n, w, s);
+        if name.board == Header::QUEUE {
+            if best < name.key { name.key } else { best }
+        } else {
+            best
+        }
+    } else {
+        best
+    }
+}
+
+// One above the largest order number that survives; a job's key is none.
+fn next_order(img: &[u32], flags: &[bool; 1024], n: usize, w: usize) -> u32
+    requires { ⌜ Orders (now img) n w (now flags) ⌝ }
+    ensures { λ r. ⌜ r ≡ nextOrder (now (img .entry)) n w ⌝ }
+{
+    let mut best = 0;
+    let mut s = 0;
+    while s < n {
+        best = raise_order(img, flags, n, w, s, best);
+        s += 1;
+    }
+    best + 1
+}
+
 // Nothing is left to free: working becomes a copy, and the notes are set.
 fn finish(
     working: &mut [u32],
@@ -112,13 +143,15 @@ fn finish(
     transient: &mut [u32],
     flags: &[bool; 1024],
     n: usize,
+    w: usize,
 )
-    requires { ⌜ Finishing (now working) (now persistent) (now transient) (now flags) n ⌝ }
-    ensures { λ _. ⌜ store (now (working .exit)) (now (persistent .entry)) (now (transient .exit)) ≡ finished (now (persistent .entry)) (length (now (transient .entry))) n ⌝ }
+    requires { ⌜ Finishing (now working) (now persistent) (now transient) (now flags) n w ⌝ }
+    ensures { λ _. ⌜ store (now (working .exit)) (now (persistent .entry)) (now (transient .exit)) ≡ finished (now (persistent .entry)) (length (now (transient .entry))) n w ⌝ }
 {
     let uid = next_uid(persistent, flags, n);
+    let order = next_order(persistent, flags, n, w);
     image::contents::store_words(working, 0, persistent, persistent.len());
-    transient::notes::set_blank(transient, image::shape::narrow(n), uid);
+    transient::notes::set_blank(transient, image::shape::narrow(n), uid, order);
 }
 
 fn free_next(
@@ -127,9 +160,10 @@ fn free_next(
     transient: &mut [u32],
     flags: &[bool; 1024],
     n: usize,
+    w: usize,
 ) -> Recovery
-    requires { ⌜ Finishing (now working) (now persistent) (now transient) (now flags) n ⌝ }
-    ensures { λ r. ⌜ outcome r (now (working .exit)) (now (persistent .exit)) (now (transient .exit)) ≡ freeing (nextFreed (now (persistent .entry)) n) (store (now (working .entry)) (now (persistent .entry)) (now (transient .entry))) n ⌝ }
+    requires { ⌜ Finishing (now working) (now persistent) (now transient) (now flags) n w ⌝ }
+    ensures { λ r. ⌜ outcome r (now (working .exit)) (now (persistent .exit)) (now (transient .exit)) ≡ freeing (nextFreed (now (persistent .entry)) n) (store (now (working .entry)) (now (persistent .entry)) (now (transient .entry))) n w ⌝ }
 {
     match next_freed(persistent, flags, n) {
         Found::At(s) => {
@@ -137,7 +171,7 @@ fn free_next(
             Recovery::WentOn
         }
         Found::Nothing => {
-            finish(working, persistent, transient, flags, n);
+            finish(working, persistent, transient, flags, n, w);
             Recovery::Done
         }
     }
@@ -175,7 +209,7 @@ fn recover_sized(
     let flags = survival::survivors(persistent, n);
     match acceptance::check_slots(persistent, &flags, n, w) {
         Check::Refused(r) => Recovery::Declined(r),
-        Check::Accepted => free_next(working, persistent, transient, &flags, n),
+        Check::Accepted => free_next(working, persistent, transient, &flags, n, w),
     }
 }
 

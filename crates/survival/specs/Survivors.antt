@@ -21,5 +21,9 @@ unfoldable pub survivor : List ℕ → ℕ → ℕ → Bool
 survivor l n s =
     payloadKind (header l s .kind) && (kept (clockOf l) (header l s) && not (anyOf (λ t. beats (clockOf l) (header l s) (header l t)) n))
 
+-- a survivor of that board
+unfoldable pub survivesOn : List ℕ → ℕ → ℕ → ℕ → Bool
+survivesOn l n board s = survivor l n s && eqb (header l s .board) board
+
 unfoldable pub survivorCount : List ℕ → ℕ → ℕ
 survivorCount l n = count (survivor l n) n

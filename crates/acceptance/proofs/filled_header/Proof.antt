@@ -14,4 +14,5 @@ filled-header-spec =
     (λ c. search (needs, laws))
     (λ c. search (needs, laws))
     (λ c. search (needs, laws))
+    (λ c. search (needs, laws))
     (λ c. search (needs, laws)))

@@ -10,5 +10,6 @@ nameless-at-spec =
     (tie.spec
     (λ c. search (needs, laws))
     (λ c κs. search (needs, laws))
+    (λ c κs. search (needs, laws))
     (λ c. search (needs, laws))
     (λ c. search (needs, laws)))

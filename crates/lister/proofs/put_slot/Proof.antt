@@ -9,14 +9,7 @@ put-slot-spec =
     tie.close
     (tie.spec
     (λ c κs. search (needs, slots))
-    (λ c. search (needs, slots))
     (λ c κs. search (needs, slots))
-    (λ c. search (needs, slots))
-    (λ c. search (needs, slots))
-    (λ c. search (needs, slots))
-    (λ c. search (needs, slots))
-    (λ c κs. search (needs, slots))
-    (λ c. search (needs, slots))
     (λ c κs. search (needs, slots))
     (λ c. search (needs, slots))
     (λ c. search (needs, slots)))

@@ -12,6 +12,7 @@ finish-spec =
     (λ c κs. search (needs, steps))
     (λ c κs. search (needs, steps))
     (λ c κs. search (needs, steps))
+    (λ c κs. search (needs, steps))
     (λ c. search (needs, steps))
     (λ c. search (needs, steps))
     (λ c. search (needs, steps)))
