@@ -51,7 +51,7 @@ fn cover(working: &mut [u32], transient: &mut [u32], z: Sizes, e: u32, s: usize,
     }
 }
 
-fn delete_at(
+pub fn delete_at(
     working: &mut [u32],
     transient: &mut [u32],
     z: Sizes,

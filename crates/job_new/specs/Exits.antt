@@ -1,8 +1,8 @@
 -- The ways out of this crate's functions.
-use Prim.Native.Nat.{ℕ, _+_, _≤_, _<_}
-use mathlib.Core.Path.{_≡_}
+use Prim.Native.Nat.{ℕ, _≤_, _<_}
+use mathlib.Core.Path.{_≡_, ap}
 use mathlib.Core.Bool.{Bool}
-use mathlib.Core.List.{List, _∷_}
+use mathlib.Core.List.{List}
 use borrow.Author.Tests.{lt-ltb, le-ltb}
 use Rattle.search.specs.declared.Found.{Found}
 use Rattle.search.specs.declared.Found.the-variants.{At, Nothing}
@@ -10,35 +10,33 @@ use Rattle.reply.specs.declared.Check.{Check}
 use Rattle.reply.specs.declared.Check.the-variants.{Accepted, Refused}
 use Rattle.reply.specs.declared.Refusal.{Refusal}
 use Rattle.reply.specs.declared.Refusal.the-variants.{Newer, JobExists, NoUid, Full}
-use Rattle.image.specs.declared.header.Header.{Header}
-use Rattle.image.specs.Layout.{mostNumber, jobsBoard, freshHeader}
+use Rattle.image.specs.declared.name.Name.{Name}
+use Rattle.image.specs.Layout.{mostNumber}
 use Rattle.image.specs.Name.{jobName}
 use Rattle.transient.specs.declared.sizes.Sizes.{Sizes}
-use Rattle.transient.specs.Layout.{note, nextUidAt, setNote}
+use Rattle.transient.specs.Layout.{note, nextUidAt}
 use Rattle.transient.specs.Store.{Table, store, table, sizesOf, outcome}
 use Rattle.transient.specs.Entry.{entryCheck}
-use Rattle.transient.specs.Calls.{Changed, changed, refused}
+use Rattle.transient.specs.Calls.{Changed, changed, refused, accepted}
 use Rattle.transient.specs.Requires.{entered-head, entered-notes}
 use Rattle.transient.specs.Passed.{on-declined, on-passed, passing}
 use Rattle.table.specs.Find.{lookup, room}
-use Rattle.table.specs.Fill.{filledSlot, taken}
 use Rattle.table.specs.declared.find.Lookup.{Lookup}
 use Rattle.table.specs.declared.find.Lookup.the-variants.{Later, Live, Absent}
 use Rattle.jobs.specs.declared.way.Way.{Way}
 use Rattle.jobs.specs.declared.way.Way.the-variants.{Open, Declined}
-use Rattle.jobs.specs.Job.{Job, badJob}
+use Rattle.jobs.specs.Job.{Job, badJob, made}
 use Rattle.jobs.specs.Way.{wayIn}
 use Rattle.jobs.specs.Requires.{entered-wide, valued-entered, valued-shaped}
 use Rattle.jobs.specs.Laws.{way-valued, way-declined, way-open}
 use Rattle.job_new.specs.New.{newAbsent, newJob}
 use Rattle.job_new.specs.Stages.{newAt, newIn, new-absent-is, newOpen, newSized}
-use Rattle.job_new.specs.Requires.{ready-of, ready-entered, ready-placed, placed-value, placed-note, placed-head, placed-after, placed-uid}
+use Rattle.job_new.specs.Requires.{ready-of, ready-entered, ready-placed}
 
 module _ (z : Sizes) (tb : Table) (e : ℕ) (j : Job) where
-  pub new-done : (s : ℕ) {u : ℕ} {h : Header} {wk a b : List ℕ} → u ≡ note nextUidAt (tb .transient) → h ≡ freshHeader e u jobsBoard
-      → wk ≡ filledSlot z (tb .working) s h (j .key ∷ j .value) → a ≡ taken z (tb .transient) e s → b ≡ setNote nextUidAt a (u + 1) → changed Accepted wk b ≡ newAt z tb e s j
+  pub new-done : (s : ℕ) {name : Name} {wk tr : List ℕ} → name ≡ jobName (j .key) → table wk tr ≡ made z tb e s name (j .value) → changed Accepted wk tr ≡ newAt z tb e s j
   unfolding newAt
-  new-done s p q r x y = rw (r, q, y, x, p)
+  new-done s q h = ap accepted (rw q at h)
 
   -- 13
   module _ {f : Found} (fr : f ≡ room z tb 2) where
@@ -93,4 +91,4 @@ module _ (wk l tr : List ℕ) (thread : ℕ) (j : Job) {k : Check} (c : k ≡ en
   unfolding newJob newSized newOpen
   new-enters a h = on-passed wk l tr c (newSized thread j) a h
 
-pub ruleset laws = (entered-head, entered-notes, entered-wide, valued-entered, valued-shaped, way-valued, ready-of, ready-entered, ready-placed, placed-value, placed-note, placed-head, placed-after, placed-uid, new-done, new-full, new-placed, new-uid, new-room, new-later, new-exists, new-absent, new-declined, new-goes, new-sizes, new-refused, new-enters, passing)
+pub ruleset laws = (entered-head, entered-notes, entered-wide, valued-entered, valued-shaped, way-valued, ready-of, ready-entered, ready-placed, new-done, new-full, new-placed, new-uid, new-room, new-later, new-exists, new-absent, new-declined, new-goes, new-sizes, new-refused, new-enters, passing)

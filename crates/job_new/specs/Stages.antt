@@ -1,32 +1,26 @@
 -- New in the stages of its code: at a slot, with the slot found, with what the look-up found, within an open operation, with the sizes.
-use Prim.Native.Nat.{ℕ, _+_}
+use Prim.Native.Nat.{ℕ}
 use mathlib.Core.Path.{_≡_, refl}
 use mathlib.Core.Bool.{cond}
-use mathlib.Core.List.{_∷_}
 use lib.Dec.{ltb}
 use Rattle.search.specs.declared.Found.{Found}
 use Rattle.search.specs.First.{whereFound}
-use Rattle.reply.specs.declared.Check.the-variants.{Accepted}
 use Rattle.reply.specs.declared.Refusal.the-variants.{Newer, JobExists, NoUid, Full}
-use Rattle.image.specs.Layout.{mostNumber, jobsBoard, freshHeader}
+use Rattle.image.specs.Layout.{mostNumber}
 use Rattle.image.specs.Name.{jobName}
 use Rattle.transient.specs.declared.sizes.Sizes.{Sizes}
-use Rattle.transient.specs.Layout.{note, nextUidAt, setNote}
+use Rattle.transient.specs.Layout.{note, nextUidAt}
 use Rattle.transient.specs.Store.{Table}
-use Rattle.transient.specs.Calls.{Changed, changed, refused}
+use Rattle.transient.specs.Calls.{Changed, refused, accepted}
 use Rattle.table.specs.declared.find.Lookup.{Lookup}
 use Rattle.table.specs.Find.{byLookup, lookup, room}
-use Rattle.table.specs.Fill.{filledSlot, taken}
-use Rattle.jobs.specs.Job.{Job, badJob}
+use Rattle.jobs.specs.Job.{Job, badJob, made}
 use Rattle.jobs.specs.Way.{wayIn, byWay}
 use Rattle.job_new.specs.New.{newAbsent}
 
 -- the slot s holds the new job
 unfoldable pub newAt : Sizes → Table → ℕ → ℕ → Job → Changed
-newAt z tb e s j =
-    changed Accepted
-    (filledSlot z (tb .working) s (freshHeader e (note nextUidAt (tb .transient)) jobsBoard) (j .key ∷ j .value))
-    (setNote nextUidAt (taken z (tb .transient) e s) (note nextUidAt (tb .transient) + 1))
+newAt z tb e s j = accepted (made z tb e s (jobName (j .key)) (j .value))
 
 abbrev pub newIn : Found → Sizes → Table → ℕ → Job → Changed
 newIn f z tb e j = whereFound f (λ s. newAt z tb e s j) (refused Full tb)

@@ -1,5 +1,5 @@
 // New: a job that was not there.
-use image::header::Header;
+use image::name::Name;
 use jobs::way::Way;
 use reply::Check;
 use reply::Refusal;
@@ -12,10 +12,10 @@ ghost use Rattle.transient.specs.Calls.{changed};
 ghost use Rattle.transient.specs.Requires.{Entered};
 ghost use Rattle.table.specs.Find.{room};
 ghost use Rattle.jobs.specs.Job.{job};
-ghost use Rattle.jobs.specs.Requires.{Valued};
+ghost use Rattle.jobs.specs.Requires.{Valued, Placed};
 ghost use Rattle.job_new.specs.New.{newAbsent, newJob};
 ghost use Rattle.job_new.specs.Stages.{newAt, newIn, newOpen, newSized};
-ghost use Rattle.job_new.specs.Requires.{Ready, Placed};
+ghost use Rattle.job_new.specs.Requires.{Ready};
 
 fn new_at(
     working: &mut [u32],
@@ -29,11 +29,7 @@ fn new_at(
     requires { ⌜ Placed (now working) (now transient) z s (now value) ⌝ }
     ensures { λ r. ⌜ changed r (now (working .exit)) (now (transient .exit)) ≡ newAt z (table (now (working .entry)) (now (transient .entry))) e s (job key (now (value .entry))) ⌝ }
 {
-    let uid = transient::notes::next_uid(transient);
-    let h = Header::fresh(e, uid, Header::JOBS);
-    table::fill::fill(working, z, s, h, key, value);
-    table::fill::note_taken(transient, z, e, s);
-    transient::notes::set_next_uid(transient, uid + 1);
+    jobs::make::make_at(working, transient, z, e, s, Name::job(key), value);
     Check::Accepted
 }
 

@@ -1,6 +1,6 @@
 -- The ways out of this crate's functions.
 use Prim.Native.Nat.{ℕ, _+_, _-_, _≤_, _<_}
-use mathlib.Core.Path.{_≡_, sym, _∙_}
+use mathlib.Core.Path.{_≡_}
 use mathlib.Core.List.{List}
 use lib.ListN.{length, take, drop}
 use borrow.Author.Tests.{le-leb, lt-leb, eq-eqb, ne-eqb}
@@ -13,7 +13,7 @@ use Rattle.reply.specs.declared.Check.{Check}
 use Rattle.reply.specs.declared.Check.the-variants.{Accepted, Refused}
 use Rattle.reply.specs.declared.Refusal.{Refusal}
 use Rattle.reply.specs.declared.Refusal.the-variants.{NoThread, BadArgument, Newer, NoJob}
-use Rattle.reply.specs.Refusals.{refusalNumber, declinedNumber}
+use Rattle.reply.specs.Refusals.{declinedNumber}
 use Rattle.image.specs.Layout.{contentsAt, valueAt, slotsOf, widthOf}
 use Rattle.image.specs.Name.{jobName}
 use Rattle.image.specs.Requires.{Slot, SlotOf, slot-of}
@@ -29,9 +29,10 @@ use Rattle.table.specs.declared.find.Lookup.{Lookup}
 use Rattle.table.specs.declared.find.Lookup.the-variants.{Later, Live, Absent}
 use Rattle.job_read.specs.declared.Reading.{Reading}
 use Rattle.job_read.specs.declared.Reading.the-variants.{Shown, Declined}
-use Rattle.job_read.specs.Read.{readSized, readJob, shownValue, readNumber, readPosition}
+use Rattle.job_read.specs.Read.{readSized, readJob, shownValue, readPosition}
 use Rattle.job_read.specs.Stages.{readOpen, read-sized-is}
-use Rattle.job_read.specs.Laws.{read-slot}
+use Rattle.job_read.specs.Laws.{reads-readable, answers}
+use Rattle.job_read.specs.Requires.{readable-slot}
 
 -- ---- which slot
 module _ (z : Sizes) (tb : Table) (key e : ℕ) where
@@ -99,30 +100,20 @@ module _ (wk : List ℕ) (s : ℕ) {b w : ℕ} (be : b ≡ contentsAt (slotsOf w
   value-part = let e : b + w - 1 - b ≡ w - 1 = omega arith in rw (e, be, we)
 
 -- ---- the three answers
-module _ (wk l tr : List ℕ) (thread key : ℕ) {k : Reading} (c : k ≡ readJob (store wk l tr) thread key) where
-  module _ {s : ℕ} (a : k ≡ Shown s) where
-    pub read-in : Slot wk (slotsOf wk) (widthOf wk) s
-    read-in = read-slot wk l tr thread key (sym c ∙ a)
+module _ (wk : List ℕ) {k : Reading} {s : ℕ} (a : k ≡ Shown s) where
+  pub value-shown : {v : List ℕ} → v ≡ valueAt wk (slotsOf wk) (widthOf wk) s → v ≡ shownValue k wk
+  value-shown h = rw a h
 
-    pub value-shown : {v : List ℕ} → v ≡ valueAt wk (slotsOf wk) (widthOf wk) s → v ≡ shownValue (readJob (store wk l tr) thread key) wk
-    value-shown h = rw (← c, a) h
+  pub position-shown : {p : ℕ} → p ≡ contentsAt (slotsOf wk) (widthOf wk) s + 1 → p ≡ readPosition k wk
+  position-shown h = rw a h
 
-    pub number-none : 0 ≡ readNumber (readJob (store wk l tr) thread key)
-    number-none = rw (← c, a)
+module _ (wk : List ℕ) {k : Reading} {r : Refusal} (a : k ≡ Declined r) where
+  pub value-none : take 0 wk ≡ shownValue k wk
+  value-none = rw a
 
-    pub position-shown : {p : ℕ} → p ≡ contentsAt (slotsOf wk) (widthOf wk) s + 1 → p ≡ readPosition (readJob (store wk l tr) thread key) wk
-    position-shown h = rw (← c, a) h
-
-  module _ {r : Refusal} (a : k ≡ Declined r) where
-    pub value-none : take 0 wk ≡ shownValue (readJob (store wk l tr) thread key) wk
-    value-none = rw (← c, a)
-
-    pub number-shown : {v : ℕ} → v ≡ refusalNumber r → v ≡ readNumber (readJob (store wk l tr) thread key)
-    number-shown h = rw (← c, a) h
-
-    pub position-none : {v : ℕ} → v ≡ declinedNumber r → v ≡ readPosition (readJob (store wk l tr) thread key) wk
-    position-none h = rw (← c, a) h
+  pub position-none : {v : ℕ} → v ≡ declinedNumber r → v ≡ readPosition k wk
+  position-none h = rw a h
 
 pub ruleset reads = (thread-of, entered-shaped, entered-notes, read-found, read-missing, read-later, read-live, read-absent, read-thread, read-key, read-goes, read-declines, read-enters, passing)
 
-pub ruleset values = (read-in, value-shown, value-none, number-none, number-shown, position-shown, position-none, shown-front, shown-slot, start-fits, start-is, value-part)
+pub ruleset values = (readable-slot, reads-readable, answers, value-shown, value-none, position-shown, position-none, shown-front, shown-slot, start-fits, start-is, value-part)

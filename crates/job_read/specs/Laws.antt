@@ -1,6 +1,6 @@
--- A slot that is read is one of the table.
+-- A slot that is read is one of the table; and the answers of a reading.
 use Prim.Native.Nat.{ℕ, _<_}
-use mathlib.Core.Path.{_≡_, refl}
+use mathlib.Core.Path.{_≡_, refl, sym, _∙_}
 use mathlib.Core.Bool.{Bool, true, false, cond}
 use mathlib.Core.List.{List}
 use lib.Dec.{leb, eqb}
@@ -24,9 +24,11 @@ use Rattle.table.specs.Requires.{lookedUp}
 use Rattle.table.specs.Laws.{live-below, lookup-below}
 use Rattle.table.specs.declared.find.Lookup.{Lookup}
 use Rattle.table.specs.declared.find.Lookup.the-variants.{Later, Live, Absent}
+use Rattle.job_read.specs.declared.Reading.{Reading}
 use Rattle.job_read.specs.declared.Reading.the-variants.{Shown, Declined}
-use Rattle.job_read.specs.Read.{readSized, readJob}
+use Rattle.job_read.specs.Read.{readSized, readJob, shownValue, readNumber, readPosition}
 use Rattle.job_read.specs.Stages.{readLooked}
+use Rattle.job_read.specs.Requires.{Readable}
 
 module _ (z : Sizes) (tb : Table) (key s : ℕ) where
   found-below : (f : Found) → liveSlot z tb (jobName key) ≡ f → readLooked (lookedUp f) ≡ Shown s → s < z .n
@@ -56,3 +58,19 @@ read-slot wk l tr thread key {s} e = go (entryCheck (store wk l tr)) refl e
     go : (k : Check) → entryCheck (store wk l tr) ≡ k → byCheck k Declined (readSized thread key (sizesOf (table wk tr)) (table wk tr)) ≡ Shown s → Slot wk (slotsOf wk) (widthOf wk) s
     go (Refused r) c q = let x : _≡_ {A = ℕ} 0 1 = cc in absurd (omega arith)
     go Accepted c q = slot (entry-with wk l tr c .entered .shaped .working) (sized-below (sizesOf (table wk tr)) (table wk tr) key s thread q)
+
+-- ---- the answers of a reading k, of the call that gave it
+pub reads-readable : (wk l tr : List ℕ) (thread key : ℕ) {k : Reading} → k ≡ readJob (store wk l tr) thread key → Readable wk k
+reads-readable wk l tr thread key c = record { slot = λ s a. read-slot wk l tr thread key (sym c ∙ a) }
+
+module _ (j : Reading) {k : Reading} (c : k ≡ j) where
+  pub answer-value : (wk : List ℕ) {v : List ℕ} → v ≡ shownValue k wk → v ≡ shownValue j wk
+  answer-value wk h = rw c at h
+
+  pub answer-number : {v : ℕ} → v ≡ readNumber k → v ≡ readNumber j
+  answer-number h = rw c at h
+
+  pub answer-position : (wk : List ℕ) {v : ℕ} → v ≡ readPosition k wk → v ≡ readPosition j wk
+  answer-position wk h = rw c at h
+
+pub ruleset answers = (answer-value, answer-number, answer-position)

@@ -1,4 +1,5 @@
 pub mod Read
 pub mod Stages
+pub mod Requires
 pub mod Laws
 pub mod Exits

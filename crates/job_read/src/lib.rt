@@ -1,4 +1,4 @@
-// Read: a live job's value, as a part of the working image.
+// Read: a live job's value, as a part of the working image; and the answers that look shares with it.
 use reply::Check;
 use reply::Refusal;
 use search::Found;
@@ -12,6 +12,7 @@ ghost use Rattle.transient.specs.Store.{store, table};
 ghost use Rattle.transient.specs.Requires.{Entered};
 ghost use Rattle.job_read.specs.Read.{readSized, readJob, shownValue, readNumber, readPosition};
 ghost use Rattle.job_read.specs.Stages.{readOpen};
+ghost use Rattle.job_read.specs.Requires.{Readable};
 
 // The slot whose value is shown, or why none is.
 pub enum Reading {
@@ -87,7 +88,39 @@ fn value_at(working: &[u32], s: usize) -> &[u32]
     &working[b..e]
 }
 
-// The value, as the caller's own part of the working image; empty on refusal.
+// The value that a reading shows, as the caller's own part of the working image; empty on refusal.
+pub fn shown(working: &[u32], k: Reading) -> &[u32]
+    requires { ⌜ Readable (now working) k ⌝ }
+    ensures { λ r. ⌜ now r ≡ shownValue k (now (working .entry)) ⌝ }
+{
+    match k {
+        Reading::Shown(s) => value_at(working, s),
+        Reading::Declined(_) => &working[..0],
+    }
+}
+
+// The number of a reading's refusal, 0 for none.
+pub fn reading_number(k: Reading) -> u32
+    ensures { λ r. ⌜ r ≡ readNumber k ⌝ }
+{
+    match k {
+        Reading::Shown(_) => 0,
+        Reading::Declined(r) => reply::number(r),
+    }
+}
+
+// For C, which cannot be given a part: where the value starts in the working image, or 2^32 plus the refusal.
+pub fn reading_position(working: &[u32], k: Reading) -> u64
+    requires { ⌜ Readable (now working) k ⌝ }
+    ensures { λ r. ⌜ r ≡ readPosition k (now (working .entry)) ⌝ }
+{
+    match k {
+        Reading::Shown(s) => value_start(working, s) as u64,
+        Reading::Declined(r) => reply::declined(r),
+    }
+}
+
+// A live job's value, as the caller's own part of the working image; empty on refusal.
 pub fn read<'a>(
     working: &'a [u32],
     persistent: &[u32],
@@ -97,10 +130,10 @@ pub fn read<'a>(
 ) -> &'a [u32]
     ensures { λ r. ⌜ now r ≡ shownValue (readJob (store (now (working .entry)) (now (persistent .entry)) (now (transient .entry))) thread key) (now (working .entry)) ⌝ }
 {
-    match read_slot(working, persistent, transient, thread, key) {
-        Reading::Shown(s) => value_at(working, s),
-        Reading::Declined(_) => &working[..0],
-    }
+    shown(
+        working,
+        read_slot(working, persistent, transient, thread, key),
+    )
 }
 
 // The number of read's refusal, 0 for none.
@@ -113,13 +146,10 @@ pub fn read_refusal(
 ) -> u32
     ensures { λ r. ⌜ r ≡ readNumber (readJob (store (now (working .entry)) (now (persistent .entry)) (now (transient .entry))) thread key) ⌝ }
 {
-    match read_slot(working, persistent, transient, thread, key) {
-        Reading::Shown(_) => 0,
-        Reading::Declined(r) => reply::number(r),
-    }
+    reading_number(read_slot(working, persistent, transient, thread, key))
 }
 
-// For C, which cannot be given a part: where the value starts in the working image, or 2^32 plus the refusal.
+// For C: where the value starts in the working image, or 2^32 plus the refusal.
 pub fn read_position(
     working: &[u32],
     persistent: &[u32],
@@ -129,8 +159,8 @@ pub fn read_position(
 ) -> u64
     ensures { λ r. ⌜ r ≡ readPosition (readJob (store (now (working .entry)) (now (persistent .entry)) (now (transient .entry))) thread key) (now (working .entry)) ⌝ }
 {
-    match read_slot(working, persistent, transient, thread, key) {
-        Reading::Shown(s) => value_start(working, s) as u64,
-        Reading::Declined(r) => reply::declined(r),
-    }
+    reading_position(
+        working,
+        read_slot(working, persistent, transient, thread, key),
+    )
 }

@@ -1,16 +1,20 @@
 -- What functions inside the calls on jobs require: a value of the right length, a slot reached, and one more slot found for it.
-use Prim.Native.Nat.{ℕ, _-_, _≤_, _<_}
+use Prim.Native.Nat.{ℕ, _+_, _-_, _≤_, _<_}
 use mathlib.Core.Path.{_≡_, sym, _∙_}
 use mathlib.Core.List.{List}
 use lib.ListN.{length}
 use native.Mathlib.Omega.{arith}
+use mir.Val.{Fits}
+use mir.Syntax.{w32}
 use Rattle.search.specs.declared.Found.{Found}
 use Rattle.search.specs.declared.Found.the-variants.{At}
+use Rattle.image.specs.Layout.{mostNumber}
 use Rattle.image.specs.declared.name.Name.{Name}
 use Rattle.image.specs.Requires.{Slot, HeaderFits, slot, header-fits}
 use Rattle.transient.specs.declared.sizes.Sizes.{Sizes}
+use Rattle.transient.specs.Layout.{headWords, note, nextUidAt}
 use Rattle.transient.specs.Store.{table}
-use Rattle.transient.specs.Requires.{Notes, NoteOf, Shaped, Entered}
+use Rattle.transient.specs.Requires.{Notes, NoteOf, Shaped, Entered, entered-head}
 use Rattle.table.specs.Find.{lookup, room}
 use Rattle.table.specs.Requires.{SlotValue}
 use Rattle.table.specs.Laws.{room-below, lookup-below}
@@ -35,6 +39,11 @@ pub record Reached (wk tr : List ℕ) (z : Sizes) (s : ℕ) : Type 0 where
 pub record Held (wk tr : List ℕ) (z : Sizes) (s : ℕ) (value : List ℕ) : Type 0 where
   pub reached : Reached wk tr z s
   pub words : length value ≡ z .w - 1
+
+-- the same with a uid to give: the slot takes a first version
+pub record Placed (wk tr : List ℕ) (z : Sizes) (s : ℕ) (value : List ℕ) : Type 0 where
+  pub held : Held wk tr z s value
+  pub uid-top : note nextUidAt tr ≤ mostNumber
 
 -- the notes of a slot, and of the one that supersedes it
 pub record Superseding (tr : List ℕ) (z : Sizes) (s f : ℕ) : Type 0 where
@@ -67,6 +76,22 @@ held-reached y = y .reached
 pub held-value : {wk tr value : List ℕ} {z : Sizes} {s : ℕ} → Held wk tr z s value → SlotValue wk z s value
 held-value y = record { slot = slot (y .reached .entered .shaped .working) (y .reached .within); words = y .words }
 
+module _ {wk tr value : List ℕ} {z : Sizes} {s : ℕ} (y : Placed wk tr z s value) where
+  pub placed-value : SlotValue wk z s value
+  placed-value = held-value (y .held)
+
+  pub placed-note : NoteOf tr z s
+  placed-note = reached-note (y .held .reached)
+
+  pub placed-head : headWords ≤ length tr
+  placed-head = entered-head (y .held .reached .entered)
+
+  pub placed-after : (tr′ : List ℕ) → length tr′ ≡ length tr → headWords ≤ length tr′
+  placed-after tr′ e = rw e placed-head
+
+  pub placed-uid : {u : ℕ} → u ≡ note nextUidAt tr → Fits w32 (u + 1)
+  placed-uid e = omega (arith, y .uid-top, e)
+
 pub super-to : {tr : List ℕ} {z : Sizes} {s f : ℕ} → Superseding tr z s f → NoteOf tr z f
 super-to y = record { notes = y .notes; within = y .to }
 
@@ -96,3 +121,6 @@ module _ {wk tr : List ℕ} {z : Sizes} (k : ℕ) {f : ℕ} {g : Found} (c : g �
   room-super y = record { notes = y .entered .shaped .notes; from = y .within; to = room-reached (y .entered) .within }
 
 pub ruleset reaching = (entered-wide, valued-entered, valued-shaped, reached-entered, reached-header, reached-note, held-reached, held-value, looked-reached, looked-held, room-slot, room-value, room-super)
+
+-- the slot for a first version
+pub ruleset placing = (placed-value, placed-note, placed-head, placed-after, placed-uid)

@@ -1,4 +1,4 @@
--- What every call of an open operation asks first, and how new, set and delete go on.
+-- What every call of an open operation asks first, and how new, set, delete and take go on.
 use Prim.Native.Nat.{ℕ}
 use mathlib.Core.Bool.{Bool, cond}
 use mathlib.Core.List.{List}
@@ -10,6 +10,7 @@ use Rattle.transient.specs.declared.sizes.Sizes.{Sizes}
 use Rattle.transient.specs.Layout.{openEpoch}
 use Rattle.transient.specs.Store.{Store, Table, Outcome}
 use Rattle.transient.specs.Calls.{Changed, refused, onStore}
+use Rattle.table.specs.declared.find.Lookup.{Lookup}
 use Rattle.table.specs.Find.{byLookup, lookup}
 use Rattle.jobs.specs.declared.way.Way.{Way}
 use Rattle.jobs.specs.declared.way.Way.the-variants.{Open, Declined}
@@ -25,8 +26,12 @@ abbrev pub byWay : Way → Table → (ℕ → Changed) → Changed
 byWay (Open e) tb next = next e
 byWay (Declined r) tb next = refused r tb
 
--- new, set and delete of a key: refusals 1, 2, 5, 7, 8 and 9, then the call's own, told sizes, table and epoch
-abbrev pub onJob : Store → ℕ → ℕ → (Sizes → Bool) → (Sizes → Table → ℕ → ℕ → Changed) → (Sizes → Table → ℕ → Changed) → Outcome Check
-onJob st thread key bad live absent =
+-- a change of what is looked up: refusals 1, 2, 5, 7, 8 and 9, then the call's own, told sizes, table and epoch
+abbrev pub onFound : Store → ℕ → (Sizes → Bool) → (Sizes → Table → ℕ → Lookup) → (Sizes → Table → ℕ → ℕ → Changed) → (Sizes → Table → ℕ → Changed) → Outcome Check
+onFound st thread bad look live absent =
     onStore st (λ z tb. byWay (wayIn z (tb .transient) thread (bad z)) tb
-    (λ e. byLookup (lookup z tb (jobName key) e) (refused Newer tb) (live z tb e) (absent z tb e)))
+    (λ e. byLookup (look z tb e) (refused Newer tb) (live z tb e) (absent z tb e)))
+
+-- new, set and delete of a key
+abbrev pub onJob : Store → ℕ → ℕ → (Sizes → Bool) → (Sizes → Table → ℕ → ℕ → Changed) → (Sizes → Table → ℕ → Changed) → Outcome Check
+onJob st thread key bad live absent = onFound st thread bad (λ z tb e. lookup z tb (jobName key) e) live absent

@@ -10,10 +10,6 @@ new-at-spec =
     (tie.spec
     (λ c κs. search (needs, laws))
     (λ c κs. search (needs, laws))
-    (λ c κs. search (needs, laws))
-    (λ c κs. search (needs, laws))
-    (λ c. search (needs, laws))
-    (λ c κs. search (needs, laws))
     (λ c. search (needs, laws))
     (λ c. search (needs, laws))
     (λ c. search (needs, laws)))

@@ -9,9 +9,5 @@ read-position-spec =
     tie.close
     (tie.spec
     (λ c κs. search (needs, values))
-    (λ c. search (needs, values))
     (λ c κs. search (needs, values))
-    (λ c. search (needs, values))
-    (λ c κs. search (needs, values))
-    (λ c. search (needs, values))
     (λ c. search (needs, values)))

@@ -9,8 +9,5 @@ read-refusal-spec =
     tie.close
     (tie.spec
     (λ c κs. search (needs, values))
-    (λ c. search (needs, values))
-    (λ c. search (needs, values))
     (λ c κs. search (needs, values))
-    (λ c. search (needs, values))
     (λ c. search (needs, values)))

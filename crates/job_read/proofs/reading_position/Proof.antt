@@ -1,0 +1,16 @@
+-- `reading_position`: each way out is a law.
+use borrow.Author.Needs.{needs}
+use Rattle.job_read.specs.Exits.{values}
+use Rattle.job_read.proofs.reading_position.Statement.{statement}
+use Rattle.job_read.proofs.reading_position.Tie as tie
+
+pub reading-position-spec : {M : Type 1} → statement M
+reading-position-spec =
+    tie.close
+    (tie.spec
+    (λ c. search (needs, values))
+    (λ c κs. search (needs, values))
+    (λ c. search (needs, values))
+    (λ c κs. search (needs, values))
+    (λ c. search (needs, values))
+    (λ c. search (needs, values)))

@@ -1,0 +1,4 @@
+pub mod Front
+pub mod Requires
+pub mod Laws
+pub mod Exits

@@ -1,0 +1,22 @@
+-- `append_open`: each way out is a law.
+use borrow.Author.Needs.{needs}
+use Rattle.queue_append.specs.Exits.{laws}
+use Rattle.queue_append.proofs.append_open.Statement.{statement}
+use Rattle.queue_append.proofs.append_open.Tie as tie
+
+pub append-open-spec : {M : Type 1} → statement M
+append-open-spec =
+    tie.close
+    (tie.spec
+    (λ c κs. search (needs, laws))
+    (λ c. search (needs, laws))
+    (λ c. search (needs, laws))
+    (λ c. search (needs, laws))
+    (λ c κs. search (needs, laws))
+    (λ c. search (needs, laws))
+    (λ c. search (needs, laws))
+    (λ c. search (needs, laws))
+    (λ c κs. search (needs, laws))
+    (λ c. search (needs, laws))
+    (λ c. search (needs, laws))
+    (λ c. search (needs, laws)))

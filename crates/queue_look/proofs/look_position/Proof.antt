@@ -1,0 +1,13 @@
+-- `look_position`: each way out is a law.
+use borrow.Author.Needs.{needs}
+use Rattle.queue_look.specs.Exits.{laws}
+use Rattle.queue_look.proofs.look_position.Statement.{statement}
+use Rattle.queue_look.proofs.look_position.Tie as tie
+
+pub look-position-spec : {M : Type 1} → statement M
+look-position-spec =
+    tie.close
+    (tie.spec
+    (λ c κs. search (needs, laws))
+    (λ c κs. search (needs, laws))
+    (λ c. search (needs, laws)))

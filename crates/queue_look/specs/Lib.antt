@@ -1,0 +1,4 @@
+pub mod Look
+pub mod Stages
+pub mod Laws
+pub mod Exits

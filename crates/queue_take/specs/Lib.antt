@@ -1,0 +1,4 @@
+pub mod Take
+pub mod Stages
+pub mod Keeps
+pub mod Exits
