@@ -17,13 +17,14 @@ no-change e start = refl
 
 module _ {st : State} (t : Start st) where
   -- what is said of one slot
-  one : (s : ℕ) → One (st .clock) (st .uid) (st .slots s)
+  one : (s : ℕ) → One (st .clock) (st .uid) (st .order) (st .slots s)
   one s =
       let a = t .settled s in
       let h = a .same-head in
       record {
         proper = a .proper;
         uid-below = a .uid-below;
+        order-below = a .order-below;
         named = a .named;
         retired-hi = omega arith;
         retired-lo = λ h. absurd (omega arith);

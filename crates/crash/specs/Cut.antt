@@ -106,7 +106,7 @@ module _ {st : State} (i : Inv st) {e : ℕ} (c : e + 2 ≡ st .clock) where
 
   -- a survivor has a name
   pub cut-named : (s : ℕ) → Survives e (st .slots) s → Named (st .slots s .persistent .name)
-  cut-named s h k = i .one s .named (working s (h .kept) .filled) (sym (cut-line s h .key-is) ∙ k)
+  cut-named s h = rw (cut-name s h) (i .one s .named (working s (h .kept) .filled))
 
   -- the survivors' names and values are what is shown at e
   holds : (k : Name) (v : Value) → CutShows e (st .slots) k v ↔ Shows (st .slots) e k v

@@ -18,3 +18,4 @@ pub mod Places
 pub mod Tick
 pub mod Begin
 pub mod Cut
+pub mod Fifo

@@ -32,13 +32,14 @@ module _ {s : ℕ} {x : Entry} {st : State} {g : ℕ → Slot} (i : Inv st) (put
     (hd : SameHead x (st .slots s .working) ⊎ SameHead x (st .slots s .persistent))
     (ln : SameLine x (st .slots s .working) ⊎ SameLine x (st .slots s .persistent)) where
   -- what is said of that slot
-  one : One (st .clock) (st .uid) (stored x (st .slots s))
+  one : One (st .clock) (st .uid) (st .order) (stored x (st .slots s))
   one =
       let o = i .one s in
       let z : Waits (st .clock) x (st .slots s) = waits-head hd (o .waits) (o .stray) in
       record {
         proper = o .proper;
         uid-below = o .uid-below;
+        order-below = o .order-below;
         named = o .named;
         retired-hi = o .retired-hi;
         retired-lo = o .retired-lo;
@@ -76,7 +77,7 @@ module _ {s : ℕ} {x : Entry} {st : State} {g : ℕ → Slot} (i : Inv st) (put
   stored-inv = record {
     clock-lo = i .clock-lo;
     uid-lo = i .uid-lo;
-    one = every-put put (λ m. One (st .clock) (st .uid)) one (λ m _. i .one m);
+    one = every-put put (λ m. One (st .clock) (st .uid) (st .order)) one (λ m _. i .one m);
     two = dressed-two kept (i .two);
     next = dressed-next kept (i .next);
     underway = every-put put (Underway (st .clock) (st .place)) underway (λ m _. i .underway m);

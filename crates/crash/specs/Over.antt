@@ -37,16 +37,17 @@ module _ {kind e s r : ℕ} {v : Value} {u : Option Value} {now before : ℕ} {s
   new = filled x now before (st .slots s)
 
   -- ---- the new version
-  write : Write e s (st .uid) name u x 0 now before st
+  write : Write e s (st .uid) (st .order) name u x 0 now before st
   write =
       let one = i .one r in record {
         operation = t .of .operation;
         joins = t .joins;
         was = record { epoch-is = λ h. absurd (omega arith); name-is = λ h. absurd (omega arith) };
         own = record { epoch-is = λ _. refl; name-is = λ _. refl };
-        proper = omega (arith, outcome-kind (t .outcome), one .proper .uid-lo (t .of .payload .0), one .proper .board-is (t .of .payload .0));
+        proper = omega (arith, outcome-kind (t .outcome), one .proper .uid-lo (t .of .payload .0), one .proper .board-lo (t .of .payload .0));
         named = one .named (t .of .payload .0);
         uid-below = one .uid-below;
+        order-below = λ _. one .order-below (t .of .payload .0);
         not-retired = refl;
         tells = successor-tells e (old .working .uid) name (t .outcome);
       }
@@ -66,7 +67,7 @@ module _ {kind e s r : ℕ} {v : Value} {u : Option Value} {now before : ℕ} {s
   }
 
   -- ---- the old version: only its retirement changes
-  old-one : One (st .clock) (st .uid) (retiring e old)
+  old-one : One (st .clock) (st .uid) (st .order) (retiring e old)
   old-one = let one = i .one r in search arith
 
   old-underway : Underway (st .clock) (st .place) r (retiring e old)
@@ -109,12 +110,12 @@ module _ {kind e s r : ℕ} {v : Value} {u : Option Value} {now before : ℕ} {s
     λ q. any-first (t .put) (write-tells i write d l w .1 q),
   )
 
-  pub over-inv : Inv (after st g (st .uid) e name u)
+  pub over-inv : Inv (after st g (st .uid) (st .order) e name u)
   over-inv =
       let a = write-two i write (retiring e old) behind-old in record {
         clock-lo = i .clock-lo;
         uid-lo = i .uid-lo;
-        one = every-put2 (t .put) (λ s. One (st .clock) (st .uid)) (write-one i write) old-one (λ m _ _. i .one m);
+        one = every-put2 (t .put) (λ s. One (st .clock) (st .uid) (st .order)) (write-one i write) old-one (λ m _ _. i .one m);
         two = pairwise-put2 (t .put) Two (a .0) (a .1)
             (λ m _ h. let b = write-two i write (st .slots m) (behind m h) in (b .0, b .1, old-two m h .0, old-two m h .1)) (i .two);
         next = every-put2 (t .put) (λ s a. 1 ≤ a .retired → Any (Next (a .working .uid) (a .retired)) g)

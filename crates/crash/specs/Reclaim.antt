@@ -24,9 +24,10 @@ module _ {s : ℕ} {st : State} {g : ℕ → Slot} (i : Inv st) (t : Reclaim s s
   reclaim-inv = record {
     clock-lo = i .clock-lo;
     uid-lo = i .uid-lo;
-    one = every-put (t .put) (λ m. One (st .clock) (st .uid)) (record {
+    one = every-put (t .put) (λ m. One (st .clock) (st .uid) (st .order)) (record {
       proper = omega arith;
       uid-below = i .uid-lo;
+      order-below = λ h. absurd (omega arith);
       named = λ h. absurd (omega arith);
       retired-hi = omega arith;
       retired-lo = λ h. absurd (omega arith);

@@ -4,7 +4,7 @@ use mathlib.Core.Path.{_≡_}
 use mathlib.Core.Logic.{_≢_, _⊎_, _↔_}
 use mathlib.Core.List.{List, List·Memᴰ}
 use mathlib.Core.Option.{some}
-use Rattle.image.specs.Layout.{mostNumber, jobsBoard}
+use Rattle.image.specs.Layout.{mostNumber, jobsBoard, queueBoard}
 use Rattle.image.specs.declared.name.Name.{Name}
 use Rattle.image.specs.Name.{Named}
 use Rattle.crash.specs.Table.{Pairwise, Every, Any}
@@ -41,6 +41,7 @@ pub record State : Type 0 where
   pub slots : ℕ → Slot
   pub clock : ℕ
   pub uid : ℕ
+  pub order : ℕ
   pub place : Place
   pub start : Jobs
   pub row : List Change
@@ -52,7 +53,7 @@ Filled x = 1 ≤ x .kind
 abbrev pub Payload : Entry → Type 0
 Payload x = (1 ≤ x .kind) × (x .kind ≤ 2)
 
--- four zeros, or "a label from 2 to the clock and a uid from 1 to 4,000,000,000", and the board of jobs
+-- four zeros, or "a label from 2 to the clock and a uid from 1 to 4,000,000,000", and one of the two boards
 pub record Proper (c : ℕ) (x : Entry) : Type 0 where
   pub kind-hi : x .kind ≤ 3
   pub free-epoch : x .kind ≡ 0 → x .epoch ≡ 0
@@ -62,7 +63,8 @@ pub record Proper (c : ℕ) (x : Entry) : Type 0 where
   pub epoch-hi : x .epoch ≤ c
   pub uid-lo : 1 ≤ x .kind → 1 ≤ x .uid
   pub uid-hi : x .uid ≤ mostNumber
-  pub board-is : 1 ≤ x .kind → x .name .board ≡ jobsBoard
+  pub board-lo : 1 ≤ x .kind → jobsBoard ≤ x .name .board
+  pub board-hi : x .name .board ≤ queueBoard
 
 -- the board of a name stands in the header, its key in the contents
 pub record SameHead (x y : Entry) : Type 0 where
@@ -100,10 +102,12 @@ pub record Waits (c : ℕ) (x : Entry) (a : Slot) : Type 0 where
   pub in-now : x .epoch ≡ c → 1 ≤ a .now
   pub in-before : x .epoch + 1 ≡ c → 1 ≤ a .before
 
-pub record One (c u : ℕ) (a : Slot) : Type 0 where
+-- c is the clock, u the next uid, o the next order number
+pub record One (c u o : ℕ) (a : Slot) : Type 0 where
   -- I0
   pub proper : Proper c (a .working)
   pub uid-below : a .working .uid < u
+  pub order-below : Filled (a .working) → a .working .name .board ≡ queueBoard → a .working .name .key < o
   pub named : Filled (a .working) → Named (a .working .name)
   -- I2: the bounds of a retirement
   pub retired-hi : a .retired ≤ c
@@ -167,7 +171,7 @@ UpTo c row = (ch : Change) → List·Memᴰ ch row → ch .epoch ≤ c
 pub record Inv (st : State) : Type 0 where
   pub clock-lo : 2 ≤ st .clock
   pub uid-lo : 1 ≤ st .uid
-  pub one : Every (λ s. One (st .clock) (st .uid)) (st .slots)
+  pub one : Every (λ s. One (st .clock) (st .uid) (st .order)) (st .slots)
   pub two : Pairwise Two (st .slots)
   pub next : Every (λ s a. 1 ≤ a .retired → Any (Next (a .working .uid) (a .retired)) (st .slots)) (st .slots)
   pub underway : Every (Underway (st .clock) (st .place)) (st .slots)

@@ -4,7 +4,7 @@ use mathlib.Core.Path.{_≡_}
 use mathlib.Core.Logic.{_≢_, _⊎_, _↔_}
 use mathlib.Core.Option.{Option, none, some}
 use mathlib.Core.List.{[], _∷_, _++_}
-use Rattle.image.specs.Layout.{mostNumber, jobsBoard}
+use Rattle.image.specs.Layout.{mostNumber, jobsBoard, queueBoard}
 use Rattle.image.specs.declared.name.Name.{Name}
 use Rattle.image.specs.Name.{nameOf, Named}
 use Rattle.crash.specs.Table.{Put, Put2, Pairwise}
@@ -45,12 +45,13 @@ ticked a = record { working = a .working; persistent = a .persistent; retired = 
 
 -- ---- states after a change
 -- a change by an operation of epoch e
-abbrev pub after : State → (ℕ → Slot) → ℕ → ℕ → Name → Option Value → State
-after st g uid e k v =
+abbrev pub after : State → (ℕ → Slot) → ℕ → ℕ → ℕ → Name → Option Value → State
+after st g uid order e k v =
     record {
       slots = g;
       clock = st .clock;
       uid = uid;
+      order = order;
       place = st .place;
       start = st .start;
       row = st .row ++ (record { epoch = e; name = k; value = v } ∷ []);
@@ -58,7 +59,7 @@ after st g uid e k v =
 
 -- a change that the reference map does not see
 abbrev pub moved : State → (ℕ → Slot) → Place → State
-moved st g p = record { slots = g; clock = st .clock; uid = st .uid; place = p; start = st .start; row = st .row }
+moved st g p = record { slots = g; clock = st .clock; uid = st .uid; order = st .order; place = p; start = st .start; row = st .row }
 
 abbrev pub atRest : Place
 atRest = record { looked = 0; flushed = 0; half = 0 }
@@ -80,13 +81,16 @@ pub record Joins (c e now before : ℕ) (a : Slot) : Type 0 where
   pub joins-before : e + 1 ≡ c → 1 ≤ before
 
 -- ---- the six changes by calls
--- a new ALLOC in slot s
-pub record New (e s : ℕ) (k : Name) (v : Value) (now before : ℕ) (st : State) (g : ℕ → Slot) : Type 0 where
+-- a new ALLOC in slot s; `order` is the next order number after it
+pub record New (e s order : ℕ) (k : Name) (v : Value) (now before : ℕ) (st : State) (g : ℕ → Slot) : Type 0 where
   pub operation : Operation e st
   pub joins : Joins (st .clock) e now before (st .slots s)
   pub free : st .slots s .working .kind ≡ 0
   pub named : Named k
-  pub board-is : k .board ≡ jobsBoard
+  pub board-lo : jobsBoard ≤ k .board
+  pub board-hi : k .board ≤ queueBoard
+  pub orders : st .order ≤ order
+  pub order-below : k .board ≡ queueBoard → k .key < order
   pub uid-hi : st .uid ≤ mostNumber
   pub no-live : (m : ℕ) → Payload (st .slots m .working) → st .slots m .working .name ≡ k → 1 ≤ st .slots m .retired
   pub no-later : (m : ℕ) → Filled (st .slots m .working) → st .slots m .working .name ≡ k → st .slots m .working .epoch ≤ e
@@ -97,6 +101,14 @@ pub record Current (e r : ℕ) (st : State) : Type 0 where
   pub operation : Operation e st
   pub payload : Payload (st .slots r .working)
   pub current : st .slots r .retired ≡ 0
+
+-- r holds the live entry of the queue with the smallest order number, and no entry is of an epoch after e
+pub record Foremost (e r : ℕ) (st : State) : Type 0 where
+  pub of : Current e r st
+  pub board-is : st .slots r .working .name .board ≡ queueBoard
+  pub newest : (m : ℕ) → Filled (st .slots m .working) → st .slots m .working .name .board ≡ queueBoard → st .slots m .working .epoch ≤ e
+  pub smallest : (m : ℕ) → Payload (st .slots m .working) → st .slots m .retired ≡ 0 → st .slots m .working .name .board ≡ queueBoard
+      → st .slots r .working .name .key ≤ st .slots m .working .name .key
 
 -- a set by a new UPDATE, or a delete by a new DELETE, in slot s, of the older version in r
 -- v is the value in the slot, u what the row has
@@ -149,7 +161,7 @@ pub record Tick (st : State) (g : ℕ → Slot) : Type 0 where
   pub all : (s : ℕ) → g s ≡ ticked (st .slots s)
 
 abbrev pub tickedState : State → (ℕ → Slot) → State
-tickedState st g = record { slots = g; clock = suc (st .clock); uid = st .uid; place = atRest; start = st .start; row = st .row }
+tickedState st g = record { slots = g; clock = suc (st .clock); uid = st .uid; order = st .order; place = atRest; start = st .start; row = st .row }
 
 -- ---- the place moves on
 -- past slots where nothing is to be reclaimed
@@ -162,13 +174,14 @@ pub record Passes (to : ℕ) (st : State) : Type 0 where
 
 -- ---- a start: what format or a finished recovery leaves
 -- free, or a payload that stands in both images and is old enough
-pub record Settled (c u : ℕ) (a : Slot) : Type 0 where
+pub record Settled (c u o : ℕ) (a : Slot) : Type 0 where
   pub same-head : SameHead (a .persistent) (a .working)
   pub same-line : SameLine (a .persistent) (a .working)
   pub proper : Proper c (a .working)
   pub payload : a .working .kind ≤ 2
   pub old : a .working .epoch + 2 ≤ c
   pub uid-below : a .working .uid < u
+  pub order-below : Filled (a .working) → a .working .name .board ≡ queueBoard → a .working .name .key < o
   pub named : Filled (a .working) → Named (a .working .name)
   pub not-retired : a .retired ≡ 0
 
@@ -180,7 +193,7 @@ pub record Apart (a b : Slot) : Type 0 where
 pub record Start (st : State) : Type 0 where
   pub clock-lo : 2 ≤ st .clock
   pub uid-lo : 1 ≤ st .uid
-  pub settled : (s : ℕ) → Settled (st .clock) (st .uid) (st .slots s)
+  pub settled : (s : ℕ) → Settled (st .clock) (st .uid) (st .order) (st .slots s)
   pub apart : Pairwise Apart (st .slots)
   pub rest : st .place ≡ atRest
   pub empty : st .row ≡ []

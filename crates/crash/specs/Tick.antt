@@ -27,12 +27,13 @@ module _ {st : State} {g : ℕ → Slot} (i : Inv st) (t : Tick st g) where
   kept s = record { entry = st .slots s .persistent; now = 0; before = st .slots s .now; is = t .all s }
 
   -- what is said of one slot, at the new clock
-  one : (s : ℕ) → One (suc (st .clock)) (st .uid) (ticked (st .slots s))
+  one : (s : ℕ) → One (suc (st .clock)) (st .uid) (st .order) (ticked (st .slots s))
   one s =
       let o = i .one s in
       record {
         proper = proper-suc (o .proper);
         uid-below = o .uid-below;
+        order-below = o .order-below;
         named = o .named;
         retired-hi = omega (arith, o .retired-hi);
         retired-lo = λ h. omega (arith, t .swept s .retired h);

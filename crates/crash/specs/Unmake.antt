@@ -15,7 +15,7 @@ module _ {e r now before : ℕ} {st : State} {g : ℕ → Slot} (i : Inv st) (t 
   only : (m : ℕ) → m ≢ r → Filled (st .slots m .working) → st .slots m .working .uid ≢ st .slots r .working .uid
   only m h p u = omega (arith, current-newest i (t .change .of) m h p u)
 
-  pub unmake-inv : Inv (after st g (st .uid) e (st .slots r .working .name) none)
+  pub unmake-inv : Inv (after st g (st .uid) (st .order) e (st .slots r .working .name) none)
   unmake-inv = in-place-inv i (t .change)
       (record { epoch-is = λ h. absurd (omega arith); name-is = λ h. absurd (omega arith) })
       (omega arith)

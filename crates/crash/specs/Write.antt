@@ -5,6 +5,7 @@ use mathlib.Core.Logic.{_≢_, _⊎_, inl, inr, _↔_}
 use mathlib.Core.Option.{Option, none, some}
 use native.Mathlib.Omega.{arith}
 use native.Mathlib.Decide.{ℕ-discrete}
+use Rattle.image.specs.Layout.{queueBoard}
 use Rattle.image.specs.declared.name.Name.{Name}
 use Rattle.image.specs.Name.{Named}
 use Rattle.crash.specs.Table.{Put, Any, every-put, pairwise-put, any-new, any-keep, any-case}
@@ -39,8 +40,9 @@ pub data Tells (v : Option Value) (x : Entry) : Type 0 where
 abbrev pub written : Entry → ℕ → ℕ → ℕ → Slot → Slot
 written x retired now before a = record { working = x; persistent = a .persistent; retired = retired; now = now; before = before }
 
--- the entry x takes the place of a free one, or of one of the same epoch and job; `uid` is the next uid after it
-pub record Write (e s uid : ℕ) (k : Name) (v : Option Value) (x : Entry) (retired now before : ℕ) (st : State) : Type 0 where
+-- the entry x takes the place of a free one, or of one of the same epoch and job; `uid` and `order` are the next uid and the next
+-- order number after it
+pub record Write (e s uid order : ℕ) (k : Name) (v : Option Value) (x : Entry) (retired now before : ℕ) (st : State) : Type 0 where
   pub operation : Operation e st
   pub joins : Joins (st .clock) e now before (st .slots s)
   pub was : Own e k (st .slots s .working)
@@ -48,6 +50,7 @@ pub record Write (e s uid : ℕ) (k : Name) (v : Option Value) (x : Entry) (reti
   pub proper : Proper (st .clock) x
   pub named : Named k
   pub uid-below : x .uid < uid
+  pub order-below : Filled x → x .name .board ≡ queueBoard → x .name .key < order
   pub not-retired : retired ≡ 0
   pub tells : Tells v x
 
@@ -64,12 +67,14 @@ pub record Behind (e : ℕ) (k : Name) (b a : Slot) : Type 0 where
   pub newer : Newer b a
   pub lone : (d : ℕ) → e ≤ d → Visible d a → a .working .name ≢ k
 
--- the next uid may go up
-one-uid : {c u u′ : ℕ} {a : Slot} → u ≤ u′ → One c u a → One c u′ a
-one-uid h w = search arith
+-- the next uid and the next order number may go up
+one-up : {c u u′ o o′ : ℕ} {a : Slot} → u ≤ u′ → o ≤ o′ → One c u o a → One c u′ o′ a
+one-up {o′ = o′} {a = a} h k w =
+    let below : Filled (a .working) → a .working .name .board ≡ queueBoard → a .working .name .key < o′ = λ f b. omega (arith, w .order-below f b) in
+    search arith
 
-module _ {e s uid : ℕ} {k : Name} {v : Option Value} {x : Entry} {retired now before : ℕ} {st : State} (i : Inv st)
-    (t : Write e s uid k v x retired now before st) where
+module _ {e s uid order : ℕ} {k : Name} {v : Option Value} {x : Entry} {retired now before : ℕ} {st : State} (i : Inv st)
+    (t : Write e s uid order k v x retired now before st) where
   abbrev old : Slot
   old = st .slots s
 
@@ -81,11 +86,12 @@ module _ {e s uid : ℕ} {k : Name} {v : Option Value} {x : Entry} {retired now 
   own-before o p h = omega (arith, own-epoch o p (omega arith))
 
   -- the lines of one slot: neither the new entry nor the old one is settled
-  pub write-one : One (st .clock) uid new
+  pub write-one : One (st .clock) uid order new
   write-one =
       let w = i .one s in record {
         proper = t .proper;
         uid-below = t .uid-below;
+        order-below = t .order-below;
         named = λ h. rw (t .own .name-is h) (t .named);
         retired-hi = omega arith;
         retired-lo = λ h. omega arith;
@@ -153,11 +159,11 @@ module _ {e s uid : ℕ} {k : Name} {v : Option Value} {x : Entry} {retired now 
       λ q. any-new put (write-tells d l w .1 q),
     )
 
-    pub write-inv : st .uid ≤ uid → ((m : ℕ) → m ≢ s → Heir old new (st .slots m)) → Inv (after st g uid e k v)
-    write-inv uids heir = record {
+    pub write-inv : st .uid ≤ uid → st .order ≤ order → ((m : ℕ) → m ≢ s → Heir old new (st .slots m)) → Inv (after st g uid order e k v)
+    write-inv uids orders heir = record {
       clock-lo = i .clock-lo;
       uid-lo = omega (arith, i .uid-lo);
-      one = every-put put (λ s. One (st .clock) uid) write-one (λ m _. one-uid uids (i .one m));
+      one = every-put put (λ s. One (st .clock) uid order) write-one (λ m _. one-up uids orders (i .one m));
       two = pairwise-put put Two (λ m h. write-two (st .slots m) (behind m h)) (i .two);
       next = every-put put (λ s a. 1 ≤ a .retired → Any (Next (a .working .uid) (a .retired)) g) (λ h. absurd (omega arith))
           (λ m q h. any-keep put (λ w. any-new put (heir m q h w)) (i .next m h));

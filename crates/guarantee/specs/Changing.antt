@@ -1,5 +1,5 @@
 -- What a call on jobs leaves is good, beside what the reference map makes of its reply: by the shapes that definitions are made of.
-use Prim.Native.Nat.{ℕ, _<_}
+use Prim.Native.Nat.{ℕ, _≤_, _<_}
 use mathlib.Core.Path.{_≡_, refl}
 use mathlib.Core.Bool.{Bool, true, false, cond}
 use mathlib.Core.Logic.{_≢_}
@@ -13,7 +13,7 @@ use Rattle.reply.specs.declared.Refusal.{Refusal}
 use Rattle.image.specs.Layout.{slotsOf}
 use Rattle.image.specs.declared.name.Name.{Name}
 use Rattle.transient.specs.declared.sizes.Sizes.{Sizes}
-use Rattle.transient.specs.Layout.{threadsOf, note, lastAt, openEpoch}
+use Rattle.transient.specs.Layout.{threadsOf, note, lastAt, nextOrderAt, openEpoch}
 use Rattle.transient.specs.Store.{Store, Table, store, table, tableOf, sizesOf, Outcome, afterCheck}
 use Rattle.transient.specs.Entry.{entryCheck}
 use Rattle.transient.specs.Calls.{Changed, refused, onStore}
@@ -68,6 +68,10 @@ module _ {sz : Sizes} {start : Jobs} {st : Store} {p : Plain} (g : Good sz start
   -- the notes name slots of the table
   pub last-below : entryCheck st ≡ Accepted → note lastAt (st .transient) < sz .n
   last-below a = rw sizes-is at (entry-with (st .working) (st .persistent) (st .transient) a .entered .last)
+
+  -- the next order number is one
+  pub order-low : entryCheck st ≡ Accepted → 1 ≤ note nextOrderAt (st .transient)
+  order-low a = entry-with (st .working) (st .persistent) (st .transient) a .entered .order-lo
 
 -- ---- what a call's part leaves is good
 pub record Fine (sz : Sizes) (start : Jobs) (l : List ℕ) (p : Plain) (thread : ℕ) (name : Name) (v : Option Value) (ch : Changed) : Type 0 where

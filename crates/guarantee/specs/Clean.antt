@@ -13,16 +13,16 @@ use native.Mathlib.Decide.{decLt}
 use Rattle.search.specs.Bools.{never, and-left, and-right, and-both}
 use Rattle.search.specs.Some.{some-at}
 use Rattle.reply.specs.declared.Check.the-variants.{Accepted}
-use Rattle.image.specs.Layout.{filledKind, payloadKind, header, contents, valueAt, slotsOf, widthOf, clockOf, freeHeader}
+use Rattle.image.specs.Layout.{queueBoard, filledKind, payloadKind, header, keyAt, contents, valueAt, slotsOf, widthOf, clockOf, freeHeader}
 use Rattle.image.specs.declared.name.Name.{Name}
-use Rattle.image.specs.Name.{key-same, nameAt}
-use Rattle.image.specs.Laws.{name-contents, value-contents}
+use Rattle.image.specs.Name.{nameAt}
+use Rattle.image.specs.Laws.{key-contents, name-contents, value-contents}
 use Rattle.transient.specs.declared.sizes.Sizes.{Sizes}
-use Rattle.transient.specs.Layout.{threadsOf, threadsOk, note, nextUidAt, phaseAt, placeAt, openEpoch, retiredIn, blank}
+use Rattle.transient.specs.Layout.{threadsOf, threadsOk, note, nextUidAt, nextOrderAt, phaseAt, placeAt, openEpoch, retiredIn, blank}
 use Rattle.transient.specs.Store.{Store, store, tableOf, sizesOf}
 use Rattle.transient.specs.Requires.{Notes}
-use Rattle.transient.specs.Laws.{threads-head, blank-length, blank-uid, blank-phase, blank-open, blank-retired}
-use Rattle.survival.specs.Survivors.{kept, survivor}
+use Rattle.transient.specs.Laws.{threads-head, blank-length, blank-uid, blank-order, blank-phase, blank-open, blank-retired}
+use Rattle.survival.specs.Survivors.{kept, survivor, survivesOn}
 use Rattle.acceptance.specs.Accept.{blankHeader, proper, versionBelow, imageCheck}
 use Rattle.acceptance.specs.Requires.{sameVersion}
 use Rattle.acceptance.specs.Sound.{Accepts, accepted-says}
@@ -30,6 +30,7 @@ use Rattle.recovery.specs.Steps.{survivor-named, survivors-apart}
 use Rattle.crash.specs.Slots.{Value, Slot, Filled, Proper, Shows}
 use Rattle.crash.specs.Steps.{atRest, Survives, Settled, Start}
 use Rattle.crash.specs.Begin.{start-inv}
+use Rattle.crash.specs.Fifo.{fifo-none}
 use Rattle.guarantee.specs.Promise.{jobsOf}
 use Rattle.guarantee.specs.View.{entryOf, slotOf, noSlot, view, progress, view-in, view-out}
 use Rattle.guarantee.specs.Good.{stateOf, Image, Good, startOf}
@@ -47,27 +48,30 @@ pub record Clean (l tr : List ℕ) : Type 0 where
   pub just : (s : ℕ) → s < slotsOf l → filledKind (header l s .kind) ≡ true → survivor l (slotsOf l) s ≡ true
   pub uid-lo : 1 ≤ note nextUidAt tr
   pub uids : (s : ℕ) → s < slotsOf l → survivor l (slotsOf l) s ≡ true → header l s .uid < note nextUidAt tr
+  pub orders : (s : ℕ) → s < slotsOf l → survivesOn l (slotsOf l) queueBoard s ≡ true → keyAt l (slotsOf l) (widthOf l) s < note nextOrderAt tr
   pub threads : threadsOk (length tr) (slotsOf l) ≡ true
   pub idle : note phaseAt tr ≡ 0
   pub closed : (thread : ℕ) → openEpoch tr thread ≡ 0
   pub not-retired : (z : Sizes) (s : ℕ) → retiredIn z tr s ≡ 0
 
--- blank notes are such, with a next uid above the survivors'
-pub blank-clean : (l : List ℕ) (len n u : ℕ) → imageCheck l ≡ Accepted
+-- blank notes are such, with a next uid and a next order number above the survivors'
+pub blank-clean : (l : List ℕ) (len n u x : ℕ) → imageCheck l ≡ Accepted
     → ((s : ℕ) → s < slotsOf l → filledKind (header l s .kind) ≡ true → survivor l (slotsOf l) s ≡ true)
     → 1 ≤ u → ((s : ℕ) → s < slotsOf l → survivor l (slotsOf l) s ≡ true → header l s .uid < u)
-    → threadsOk len (slotsOf l) ≡ true → Clean l (blank len n u)
-blank-clean l len n u ok just lo uids t =
-    let is = blank-uid len n u (threads-head len (slotsOf l) t) in
+    → ((s : ℕ) → s < slotsOf l → survivesOn l (slotsOf l) queueBoard s ≡ true → keyAt l (slotsOf l) (widthOf l) s < x)
+    → threadsOk len (slotsOf l) ≡ true → Clean l (blank len n u x)
+blank-clean l len n u x ok just lo uids orders t =
+    let is = blank-uid len n u x (threads-head len (slotsOf l) t) in
     record {
       accepted = ok;
       just = just;
       uid-lo = rw is lo;
       uids = rw is uids;
-      threads = rw (blank-length len n u) t;
-      idle = blank-phase len n u;
-      closed = blank-open len n u;
-      not-retired = blank-retired len n u;
+      orders = rw (blank-order len n u x (threads-head len (slotsOf l) t)) orders;
+      threads = rw (blank-length len n u x) t;
+      idle = blank-phase len n u x;
+      closed = blank-open len n u x;
+      not-retired = blank-retired len n u x;
     }
 
 -- two kept slots are not of one version
@@ -83,6 +87,11 @@ version-once l ok s t h b k x u e =
 pub survivor-kept : (l : List ℕ) (n s : ℕ) → survivor l n s ≡ true → kept (clockOf l) (header l s) ≡ true
 unfolding survivor
 survivor-kept l n s v = and-left (kept (clockOf l) (header l s)) _ (and-right (payloadKind (header l s .kind)) _ v)
+
+-- a survivor of a board is a survivor
+pub on-survives : (l : List ℕ) (n board s : ℕ) → survivesOn l n board s ≡ true → survivor l n s ≡ true
+unfolding survivesOn
+on-survives l n board s v = and-left (survivor l n s) _ v
 
 -- a free header is proper
 pub free-proper : (c : ℕ) → proper c freeHeader ≡ true
@@ -163,8 +172,13 @@ module _ {l tr : List ℕ} (z : Clean l tr) where
             record { payload = omega arith; old = omega (arith, ok .clock-lo, p .free-epoch k); uid-below = omega (arith, z .uid-lo, p .free-uid k) }
       ]
 
+  -- a survivor of board 2 is an entry that survives
+  entry-survives : (s : ℕ) → survivor l n s ≡ true → header l s .board ≡ queueBoard → survivesOn l n queueBoard s ≡ true
+  unfolding survivesOn
+  entry-survives s v b = and-both v (eq-eqb (header l s .board) queueBoard b)
+
   -- each slot of the table is settled, and so is what lies beyond
-  settled-in : (s : ℕ) → s < n → Settled c (note nextUidAt tr) (slotOf st sz c s)
+  settled-in : (s : ℕ) → s < n → Settled c (note nextUidAt tr) (note nextOrderAt tr) (slotOf st sz c s)
   settled-in s h =
       let o = old-at s h in
       record {
@@ -174,12 +188,12 @@ module _ {l tr : List ℕ} (z : Clean l tr) where
         payload = o .payload;
         old = o .old;
         uid-below = o .uid-below;
-        named = λ f q.
-            survivor-named l (z .accepted) s h (filled-lives s (rw (is-at s h) f) .survives) (key-same (name-contents l n w s some-width) ∙ q);
+        order-below = λ f b. rw (key-contents l n w s some-width) at (z .orders s h (entry-survives s (filled-lives s (rw (is-at s h) f) .survives) b));
+        named = λ f. rw (name-contents l n w s some-width) at (survivor-named l (z .accepted) s h (filled-lives s (rw (is-at s h) f) .survives));
         not-retired = z .not-retired sz s;
       }
 
-  settled-out : Settled c (note nextUidAt tr) noSlot
+  settled-out : Settled c (note nextUidAt tr) (note nextOrderAt tr) noSlot
   settled-out =
       record {
         same-head = record { kind-is = refl; epoch-is = refl; uid-is = refl; board-is = refl };
@@ -188,11 +202,12 @@ module _ {l tr : List ℕ} (z : Clean l tr) where
         payload = omega arith;
         old = omega (arith, ok .clock-lo);
         uid-below = omega (arith, z .uid-lo);
+        order-below = λ f. absurd (omega arith);
         named = λ f. absurd (omega arith);
         not-retired = refl;
       }
 
-  settled-at : (s : ℕ) → Settled c (note nextUidAt tr) (slots s)
+  settled-at : (s : ℕ) → Settled c (note nextUidAt tr) (note nextOrderAt tr) (slots s)
   settled-at s = elim (decLt s n) [
     | yes h ↦ rw (is-at s h) (settled-in s h)
     | no h ↦ rw (view-out st sz c s (omega arith)) settled-out
@@ -298,6 +313,7 @@ module _ {l tr : List ℕ} (z : Clean l tr) where
         };
         past = record { ended-hi = λ e m. absurd (List·Memᴰ·not-nil m); durable-hi = λ e m. absurd (List·Memᴰ·not-nil m) };
         inv = start-inv starts;
+        fifo = λ e. fifo-none e (jobsOf l);
       }
 
   pub clean-good : Begins (store l l tr)

@@ -7,12 +7,12 @@ use mathlib.Core.List.{List}
 use lib.Dec.{eqb}
 use borrow.Author.Tests.{eqb-true}
 use native.Mathlib.Omega.{arith}
-use Rattle.search.specs.Bools.{refuted, and-left, and-right}
+use Rattle.search.specs.Bools.{never, refuted, and-left, and-right}
 use Rattle.search.specs.Some.{some-one}
 use Rattle.reply.specs.declared.Check.the-variants.{Accepted}
 use Rattle.image.specs.Layout.{header, contents, valueAt, clockOf}
 use Rattle.image.specs.declared.name.Name.{Name}
-use Rattle.image.specs.Name.{key-same, nameAt, same-name, unnamed-true}
+use Rattle.image.specs.Name.{misnamed, nameAt, same-name, named-says}
 use Rattle.image.specs.Laws.{name-contents, value-contents}
 use Rattle.transient.specs.declared.sizes.Sizes.{Sizes}
 use Rattle.transient.specs.Store.{Store}
@@ -86,7 +86,8 @@ module _ {sz : Sizes} {start : Jobs} {st : Store} {p : Plain} (g : Good sz start
   unfolding nameless
   cut-nameless s h = refuted (nameless image (sz .n) (sz .w) s) (λ y.
       let x = survivor image (sz .n) s in
-      cut-named (g .inv) cut-clock s (survives-here s h (and-left x _ y)) (key-same (name-at s h) ∙ unnamed-true (nameAt image (sz .n) (sz .w) s) (and-right x _ y)))
+      let named = rw (name-at s h) at (cut-named (g .inv) cut-clock s (survives-here s h (and-left x _ y))) in
+      never (misnamed (nameAt image (sz .n) (sz .w) s)) (and-right x _ y) (named-says (nameAt image (sz .n) (sz .w) s) named))
 
   -- no version is kept twice
   cut-version : (s : ℕ) → s < sz .n → versionBelow (clockOf image) (header image) s ≡ false
@@ -175,5 +176,6 @@ module _ {sz : Sizes} {start : Jobs} {st : Store} {p : Plain} (g : Good sz start
         completes = recovery-completes image cut-accepted;
         persistent = λ any c. rebuilt-holds (recovery-rebuilds image cut-accepted any c);
         working = λ any c. let r = recovery-rebuilds image cut-accepted any c in rw (rebuilt-copy r) (rebuilt-holds r);
+        fifo = g .fifo (p .clock - 2);
         durable = g .past .durable-hi;
       }

@@ -94,7 +94,7 @@ module _ {sz : Sizes} {start : Jobs} {st : Store} {p : Plain} (slot code : ℕ) 
 
   -- only the persistent image changes
   with-good : {l : List ℕ} → Image sz (p .clock) l → Inv (stateOf sz start (with l) p) → Good sz start (with l) p
-  with-good a i = record { clock-hi = g .clock-hi; working = g .working; persistent = a; notes = g .notes; opens = g .opens; past = g .past; inv = i }
+  with-good a i = record { clock-hi = g .clock-hi; working = g .working; persistent = a; notes = g .notes; opens = g .opens; past = g .past; inv = i; fifo = g .fifo }
 
   -- one of the two lines of a slot
   copied-good : slot < sz .n → Good sz start (with (storeLine (st .persistent) (heldLine sz (st .working) slot code))) p

@@ -4,24 +4,26 @@ use mathlib.Core.Path.{_≡_, refl, _∙_}
 use mathlib.Core.Bool.{Bool, true, false}
 use mathlib.Core.Logic.{_≢_}
 use mathlib.Core.List.{List, [], _∷_, _++_}
-use mathlib.Core.Option.{Option}
+use mathlib.Core.Option.{Option, none, some}
 use lib.Dec.{eqb}
 use borrow.Author.Tests.{le-leb, ne-eqb}
 use native.Mathlib.Omega.{arith}
 use Rattle.search.specs.Bools.{flag, never, and-both}
 use Rattle.image.specs.declared.header.Header.{Header}
+use Rattle.image.specs.Layout.{jobsBoard, queueBoard}
 use Rattle.image.specs.declared.name.Name.{Name}
 use Rattle.transient.specs.declared.sizes.Sizes.{Sizes}
 use Rattle.transient.specs.Store.{Store, store}
-use Rattle.transient.specs.Layout.{note, nextUidAt, phaseAt, placeAt, openEpoch, isWaiting}
+use Rattle.transient.specs.Layout.{note, nextUidAt, nextOrderAt, phaseAt, placeAt, openEpoch, isWaiting}
 use Rattle.transient.specs.Requires.{notes-after}
 use Rattle.transient.specs.Laws.{HeadKept, waiting-again}
 use Rattle.step.specs.Step.{reclaimNext, contentsNext, headerNext, clockNext}
 use Rattle.advance.specs.Stages.{underway}
 use Rattle.crash.specs.Table.{Put}
-use Rattle.crash.specs.Reference.{Jobs, Change}
+use Rattle.crash.specs.Reference.{Jobs, Change, jobsAt, Front, Fifo}
 use Rattle.crash.specs.Slots.{Value, Slot, State, Place, Inv}
 use Rattle.crash.specs.Steps.{Operation, Joins}
+use Rattle.crash.specs.Fifo.{fifo-snoc}
 use Rattle.guarantee.specs.Trace.{Plain, plain}
 use Rattle.guarantee.specs.View.{entryOf, slotOf, view, progress, view-in, view-put}
 use Rattle.guarantee.specs.Good.{stateOf, Image, Opens, Good}
@@ -38,6 +40,13 @@ flag-on h = rw h (omega arith)
 
 pub flag-off : {b : Bool} → b ≡ false → flag b ≡ 0
 flag-off h = rw h
+
+-- ---- what is no take owes nothing
+pub value-owes : {A : Type 0} {B : Type 0} {v : Value} → A → some v ≡ none → B
+value-owes a e = let z : _≡_ {A = ℕ} 0 1 = cc in absurd (omega arith)
+
+pub job-owes : {B : Type 0} → jobsBoard ≡ queueBoard → B
+job-owes e = absurd (omega arith)
 
 -- ---- no advance underway: nothing is written back yet
 pub record Resting (p : Place) : Type 0 where
@@ -80,7 +89,7 @@ module _ {sz : Sizes} {start : Jobs} {st : Store} {p : Plain} (g : Good sz start
       }
 
   -- ---- the slot that is written
-  module _ {wk′ tr′ : List ℕ} {e s r u : ℕ} {h : Header} {line : List ℕ} (a : Wrote (st .working) wk′ sz s h line) (j : Joined sz (st .transient) tr′ e s r u) (k : s < sz .n) where
+  module _ {wk′ tr′ : List ℕ} {e s r u x : ℕ} {h : Header} {line : List ℕ} (a : Wrote (st .working) wk′ sz s h line) (j : Joined sz (st .transient) tr′ e s r u x) (k : s < sz .n) where
     abbrev now : ℕ
     now = flag (isWaiting sz tr′ (p .clock) s)
 
@@ -117,14 +126,15 @@ module _ {sz : Sizes} {start : Jobs} {st : Store} {p : Plain} (g : Good sz start
   abbrev pub withRow : List Change → Plain
   withRow row = plain (p .clock) (p .operation) row (p .ended) (p .durable)
 
-  -- the state that a change leaves: other slots, a next uid, another row
-  abbrev pub changedState : (ℕ → Slot) → ℕ → List Change → State
-  changedState f u row =
-      record { slots = f; clock = p .clock; uid = u; place = progress (sz .n) (note phaseAt (st .transient)) (note placeAt (st .transient)); start = start; row = row }
+  -- the state that a change leaves: other slots, a next uid, a next order number, another row
+  abbrev pub changedState : (ℕ → Slot) → ℕ → ℕ → List Change → State
+  changedState f u x row =
+      record { slots = f; clock = p .clock; uid = u; order = x; place = progress (sz .n) (note phaseAt (st .transient)) (note placeAt (st .transient)); start = start; row = row }
 
-  pub good-change : {wk′ tr′ : List ℕ} {u : ℕ} {row row′ : List Change} → Image sz (p .clock) wk′ → HeadKept sz (st .transient) tr′ → note nextUidAt tr′ ≡ u → row′ ≡ row
-      → Inv (changedState (view (store wk′ (st .persistent) tr′) sz (p .clock)) u row) → Good sz start (store wk′ (st .persistent) tr′) (withRow row′)
-  good-change i z a b v =
+  pub good-change : {wk′ tr′ : List ℕ} {u x : ℕ} {row row′ : List Change} → Image sz (p .clock) wk′ → HeadKept sz (st .transient) tr′ → note nextUidAt tr′ ≡ u
+      → note nextOrderAt tr′ ≡ x → row′ ≡ row → ((e : ℕ) → Fifo e start row)
+      → Inv (changedState (view (store wk′ (st .persistent) tr′) sz (p .clock)) u x row) → Good sz start (store wk′ (st .persistent) tr′) (withRow row′)
+  good-change i z a o b f v =
       record {
         clock-hi = g .clock-hi;
         working = i;
@@ -132,8 +142,16 @@ module _ {sz : Sizes} {start : Jobs} {st : Store} {p : Plain} (g : Good sz start
         notes = notes-after (z .long) (g .notes);
         opens = let o = opens-after z (g .opens) in record { same = o .same; least = o .least; low = o .low; high = o .high; quiet = o .quiet };
         past = record { ended-hi = g .past .ended-hi; durable-hi = g .past .durable-hi };
-        inv = rw (a, b, z .phase, z .slot) v;
+        inv = rw (a, o, b, z .phase, z .slot) v;
+        fifo = rw b f;
       }
+
+  -- a take owes that it takes the front, at each threshold from its operation's epoch on
+  abbrev pub Owes : ℕ → Name → Option Value → Type 0
+  Owes e k v = k .board ≡ queueBoard → v ≡ none → (d : ℕ) → e ≤ d → Front (jobsAt d start (p .row)) (k .key)
+
+  pub fifo-after : (e : ℕ) (k : Name) (v : Option Value) → Owes e k v → (d : ℕ) → Fifo d start (p .row ++ (record { epoch = e; name = k; value = v } ∷ []))
+  fifo-after e k v o d = fifo-snoc d start (p .row) _ (g .fifo d) (λ b n l. o b n d l)
 
   -- an entry of the row by the operation's epoch in the notes
   pub row-epoch : (thread : ℕ) (k : Name) (v : Option Value) → thread < sz .t

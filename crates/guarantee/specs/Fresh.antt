@@ -11,7 +11,7 @@ use native.Mathlib.Omega.{arith}
 use Rattle.search.specs.Bools.{cases, never, refuted, and-left, and-right}
 use Rattle.reply.specs.declared.Check.the-variants.{Accepted, Refused}
 use Rattle.reply.specs.declared.Refusal.the-variants.{BadSizes}
-use Rattle.image.specs.Layout.{headerAt, imageWords, filledKind, header, slotsOf, widthOf, clockOf, freeHeader, sizesOk}
+use Rattle.image.specs.Layout.{queueBoard, headerAt, imageWords, filledKind, header, slotsOf, widthOf, clockOf, freeHeader, sizesOk}
 use Rattle.image.specs.Requires.{InRange}
 use Rattle.image.specs.Laws.{sizes-true}
 use Rattle.transient.specs.Layout.{threadsOk}
@@ -24,7 +24,7 @@ use Rattle.acceptance.specs.Sound.{says-accepted}
 use Rattle.format.specs.Format.{freshImage, format}
 use Rattle.format.specs.Requires.{formatFits, freshStore}
 use Rattle.guarantee.specs.Says.{filled-says}
-use Rattle.guarantee.specs.Clean.{Begins, blank-clean, survivor-kept, free-proper, clean-good}
+use Rattle.guarantee.specs.Clean.{Begins, blank-clean, survivor-kept, on-survives, free-proper, clean-good}
 
 module _ (n w : ℕ) (sizes : InRange n w) where
   abbrev image : List ℕ
@@ -104,10 +104,11 @@ module _ (n w : ℕ) (sizes : InRange n w) where
   pub fresh-good : (len : ℕ) → threadsOk len n ≡ true → Begins (freshStore len n w)
   unfolding freshStore
   fresh-good len t =
-      clean-good (blank-clean image len n 1 fresh-accepted
+      clean-good (blank-clean image len n 1 1 fresh-accepted
       (λ s h f. let e : filledKind 0 ≡ true = rw (fresh-header s) at f in absurd (omega (arith, filled-says 0 e)))
       (omega arith)
       (λ s h v. never _ v (fresh-dead (slotsOf image) s))
+      (λ s h v. never _ (on-survives image (slotsOf image) queueBoard s v) (fresh-dead (slotsOf image) s))
       (rw fresh-slots t))
 
 -- what an accepted format judged

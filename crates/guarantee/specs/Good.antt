@@ -6,10 +6,10 @@ use mathlib.Core.List.{List, [], List·Memᴰ}
 use Rattle.image.specs.Layout.{mostNumber, slotsOf, widthOf, clockOf}
 use Rattle.image.specs.Requires.{Sized}
 use Rattle.transient.specs.declared.sizes.Sizes.{Sizes}
-use Rattle.transient.specs.Layout.{note, nextUidAt, phaseAt, placeAt, openEpoch}
+use Rattle.transient.specs.Layout.{note, nextUidAt, nextOrderAt, phaseAt, placeAt, openEpoch}
 use Rattle.transient.specs.Requires.{Notes}
 use Rattle.transient.specs.Store.{Store}
-use Rattle.crash.specs.Reference.{Jobs}
+use Rattle.crash.specs.Reference.{Jobs, Fifo}
 use Rattle.crash.specs.Slots.{State, Inv}
 use Rattle.advance.specs.Stages.{underway}
 use Rattle.guarantee.specs.Trace.{Plain, plain, Moment}
@@ -26,6 +26,7 @@ stateOf sz start st p =
       slots = view st sz (p .clock);
       clock = p .clock;
       uid = note nextUidAt (st .transient);
+      order = note nextOrderAt (st .transient);
       place = progress (sz .n) (note phaseAt (st .transient)) (note placeAt (st .transient));
       start = start;
       row = p .row;
@@ -60,3 +61,4 @@ pub record Good (sz : Sizes) (start : Jobs) (st : Store) (p : Plain) : Type 0 wh
   pub opens : Opens sz (st .transient) p
   pub past : Past p
   pub inv : Inv (stateOf sz start st p)
+  pub fifo : (e : ℕ) → Fifo e start (p .row)

@@ -11,6 +11,7 @@ pub mod Lookups
 pub mod Making
 pub mod Superseding
 pub mod Replacing
+pub mod Queueing
 pub mod Opening
 pub mod Stepping
 pub mod Ticking

@@ -94,7 +94,7 @@ module _ {sz : Sizes} {start : Jobs} {st : Store} {p : Plain} (g : Good sz start
   pub name-is : (m : ℕ) → m < sz .n → slots m .working .name ≡ nameAt (st .working) (sz .n) (sz .w) m
   name-is m h = rw (view-in st sz (p .clock) m h) (sym (name-contents (st .working) (sz .n) (sz .w) m (omega (arith, g .working .sized .sizes .width-lo))))
 
-  kind-hi : (m : ℕ) → m < sz .n → header (st .working) m .kind ≤ 3
+  pub kind-hi : (m : ℕ) → m < sz .n → header (st .working) m .kind ≤ 3
   kind-hi m h = rw (view-in st sz (p .clock) m h) at (g .inv .one m .proper .kind-hi)
 
   pub free-says : {s : ℕ} → s < sz .n → freeAt (st .working) s ≡ true → slots s .working .kind ≡ 0

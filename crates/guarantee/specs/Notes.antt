@@ -1,26 +1,27 @@
--- What the change calls do to the notes: one slot joins the waiting list of e, its retirement and the next uid are set, and all
--- else but the last slot taken stays.
+-- What the change calls do to the notes: one slot joins the waiting list of e, its retirement, the next uid and the next order
+-- number are set, and all else but the last slot taken stays.
 use Prim.Native.Nat.{ℕ, _<_}
 use mathlib.Core.Path.{_≡_, _∙_}
 use mathlib.Core.Bool.{true}
 use mathlib.Core.Logic.{_≢_}
 use mathlib.Core.List.{List}
 use Rattle.transient.specs.declared.sizes.Sizes.{Sizes}
-use Rattle.transient.specs.Layout.{note, nextUidAt, retiredIn, isWaiting, setNote, setRetired, setWaiting}
+use Rattle.transient.specs.Layout.{note, nextUidAt, nextOrderAt, retiredIn, isWaiting, setNote, setRetired, setWaiting}
 use Rattle.transient.specs.Requires.{Notes, notes-after}
-use Rattle.transient.specs.Laws.{HeadKept, SlotKept, head-then, slot-then, last-head, last-slots, last-uid, uid-head, uid-slots, retired-front, waiting-front, uid-set, retired-same, retired-waiting, retired-aside, waiting-joined, waiting-stays, waiting-retired, waiting-aside}
+use Rattle.transient.specs.Laws.{HeadKept, SlotKept, head-then, slot-then, last-head, last-slots, last-uid, last-order, uid-head, uid-slots, uid-order, order-head, order-slots, order-uid, order-set, retired-front, waiting-front, uid-set, retired-same, retired-waiting, retired-aside, waiting-joined, waiting-stays, waiting-retired, waiting-aside}
 use Rattle.table.specs.Fill.{joined, taken}
 
-pub record Joined (sz : Sizes) (tr tr′ : List ℕ) (e s r u : ℕ) : Type 0 where
+pub record Joined (sz : Sizes) (tr tr′ : List ℕ) (e s r u x : ℕ) : Type 0 where
   pub head : HeadKept sz tr tr′
   pub others : (m : ℕ) → m < sz .n → m ≢ s → SlotKept sz tr tr′ m
   pub retired : retiredIn sz tr′ s ≡ r
   pub joins : isWaiting sz tr′ e s ≡ true
   pub stays : (d : ℕ) → isWaiting sz tr d s ≡ true → isWaiting sz tr′ d s ≡ true
   pub uid : note nextUidAt tr′ ≡ u
+  pub order : note nextOrderAt tr′ ≡ x
 
 module _ {tr : List ℕ} {sz : Sizes} (y : Notes tr sz) (e s : ℕ) (h : s < sz .n) where
-  pub waiting-joins : Joined sz tr (setWaiting sz tr e s) e s (retiredIn sz tr s) (note nextUidAt tr)
+  pub waiting-joins : Joined sz tr (setWaiting sz tr e s) e s (retiredIn sz tr s) (note nextUidAt tr) (note nextOrderAt tr)
   waiting-joins =
       record {
         head = waiting-front tr sz e s .head;
@@ -29,9 +30,10 @@ module _ {tr : List ℕ} {sz : Sizes} (y : Notes tr sz) (e s : ℕ) (h : s < sz 
         joins = waiting-joined y e s h;
         stays = λ d q. waiting-stays y e s d h q;
         uid = waiting-front tr sz e s .uid;
+        order = waiting-front tr sz e s .order;
       }
 
-  pub joined-joins : Joined sz tr (joined sz tr e s) e s 0 (note nextUidAt tr)
+  pub joined-joins : Joined sz tr (joined sz tr e s) e s 0 (note nextUidAt tr) (note nextOrderAt tr)
   unfolding joined
   joined-joins =
       let tr′ = setRetired sz tr s 0 in
@@ -44,10 +46,11 @@ module _ {tr : List ℕ} {sz : Sizes} (y : Notes tr sz) (e s : ℕ) (h : s < sz 
         joins = waiting-joined y′ e s h;
         stays = λ d q. waiting-stays y′ e s d h (retired-waiting y s 0 d s h ∙ q);
         uid = waiting-front tr′ sz e s .uid ∙ retired-front tr sz s 0 .uid;
+        order = waiting-front tr′ sz e s .order ∙ retired-front tr sz s 0 .order;
       }
 
 module _ {tr : List ℕ} {sz : Sizes} (y : Notes tr sz) (e s : ℕ) (h : s < sz .n) where
-  pub taken-joins : Joined sz tr (taken sz tr e s) e s 0 (note nextUidAt tr)
+  pub taken-joins : Joined sz tr (taken sz tr e s) e s 0 (note nextUidAt tr) (note nextOrderAt tr)
   unfolding taken
   taken-joins =
       let a = last-head tr sz s in
@@ -59,9 +62,10 @@ module _ {tr : List ℕ} {sz : Sizes} (y : Notes tr sz) (e s : ℕ) (h : s < sz 
         joins = j .joins;
         stays = λ d q. j .stays d (last-slots tr sz s s .waiting d ∙ q);
         uid = j .uid ∙ last-uid tr sz s;
+        order = j .order ∙ last-order tr sz s;
       }
 
-  pub made-joins : (u : ℕ) → Joined sz tr (setNote nextUidAt (taken sz tr e s) u) e s 0 u
+  pub made-joins : (u : ℕ) → Joined sz tr (setNote nextUidAt (taken sz tr e s) u) e s 0 u (note nextOrderAt tr)
   made-joins u =
       let j = taken-joins in
       let kept = uid-slots (taken sz tr e s) sz u in
@@ -72,4 +76,19 @@ module _ {tr : List ℕ} {sz : Sizes} (y : Notes tr sz) (e s : ℕ) (h : s < sz 
         joins = kept s .waiting e ∙ j .joins;
         stays = λ d q. kept s .waiting d ∙ j .stays d q;
         uid = uid-set (notes-after (j .head .long) y) u;
+        order = uid-order (taken sz tr e s) sz u ∙ j .order;
       }
+
+-- .. and another order number is set
+pub order-joins : {tr tr′ : List ℕ} {sz : Sizes} {e s r u x : ℕ} → Notes tr sz → Joined sz tr tr′ e s r u x → (y : ℕ) → Joined sz tr (setNote nextOrderAt tr′ y) e s r u y
+order-joins {tr} {tr′} {sz} {e} {s} z j y =
+    let kept = order-slots tr′ sz y in
+    record {
+      head = head-then (j .head) (order-head tr′ sz y);
+      others = λ m k d. slot-then (j .others m k d) (kept m);
+      retired = kept s .retired ∙ j .retired;
+      joins = kept s .waiting e ∙ j .joins;
+      stays = λ d q. kept s .waiting d ∙ j .stays d q;
+      uid = order-uid tr′ sz y ∙ j .uid;
+      order = order-set (notes-after (j .head .long) z) y;
+    }

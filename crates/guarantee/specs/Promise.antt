@@ -17,10 +17,10 @@ use Rattle.format.specs.Format.{format}
 use Rattle.recovery.specs.declared.Recovery.the-variants.{Done}
 use Rattle.recovery.specs.Recover.{recover}
 use Rattle.recovery.specs.Completes.{AnyWords, call, Completes}
-use Rattle.crash.specs.Reference.{Jobs, jobsAt}
+use Rattle.crash.specs.Reference.{Jobs, jobsAt, Fifo}
 use Rattle.guarantee.specs.Trace.{Moment}
 
--- ---- the jobs of an image: its survivors, by name
+-- ---- the jobs of an image, and the entries of its queue: its survivors, by name
 unfoldable pub jobsOf : List ℕ → Jobs
 jobsOf l k = whereFound (firstOf (survivesAs l (slotsOf l) (widthOf l) k) (slotsOf l)) (λ s. some (valueAt l (slotsOf l) (widthOf l) s)) none
 
@@ -47,5 +47,8 @@ pub record Promise (start : Jobs) (m : Moment) : Type 0 where
       → Holds (call any (c .before) .store .persistent) (jobsAt (m .plain .clock - 2) start (m .plain .row))
   pub working : (any : AnyWords (m .store .persistent)) (c : Completes any)
       → Holds (call any (c .before) .store .working) (jobsAt (m .plain .clock - 2) start (m .plain .row))
+  -- 02, No. 3, first in, first out: each take of a present operation took away the smallest entry of the queue of present
+  -- operations at its turn
+  pub fifo : Fifo (m .plain .clock - 2) start (m .plain .row)
   -- an operation that ended before a sync that reported done is present
   pub durable : (e : ℕ) → List·Memᴰ e (m .plain .durable) → e + 2 ≤ m .plain .clock

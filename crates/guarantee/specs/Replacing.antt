@@ -1,4 +1,4 @@
--- Set and delete keep the invariant: in the version's own slot, or by a later version.
+-- Set and delete keep the invariant: in the version's own slot, or by a later version. What is said of a delete holds of any name.
 use Prim.Native.Nat.{ℕ, _+_, _-_, _≤_, _<_}
 use mathlib.Core.Path.{_≡_, refl, sym}
 use mathlib.Core.Bool.{true, false}
@@ -13,6 +13,7 @@ use Rattle.search.specs.Bools.{cases}
 use Rattle.reply.specs.declared.Refusal.the-variants.{Newer, NoJob}
 use Rattle.image.specs.Layout.{header, contents, keyAt, freeHeader, antiHeader}
 use Rattle.image.specs.Laws.{key-contents}
+use Rattle.image.specs.declared.name.Name.{Name}
 use Rattle.image.specs.Name.{nameOf, jobName}
 use Rattle.transient.specs.declared.sizes.Sizes.{Sizes}
 use Rattle.transient.specs.Layout.{note, lastAt, openEpoch, retiredIn}
@@ -20,7 +21,6 @@ use Rattle.transient.specs.Store.{Store, store, table}
 use Rattle.table.specs.declared.find.Lookup.{Lookup}
 use Rattle.table.specs.declared.find.Lookup.the-variants as look
 use Rattle.table.specs.Find.{lookup}
-use Rattle.table.specs.Requires.{newer}
 use Rattle.jobs.specs.Job.{Job, job, badJob}
 use Rattle.jobs.specs.Laws.{job-words}
 use Rattle.job_set.specs.Set.{setAt, setJob}
@@ -40,7 +40,7 @@ use Rattle.guarantee.specs.View.{view, slotOf, view-in}
 use Rattle.guarantee.specs.Good.{stateOf, Good}
 use Rattle.guarantee.specs.Notes.{waiting-joins, joined-joins}
 use Rattle.guarantee.specs.Images.{wrote-image, header-wrote, value-wrote}
-use Rattle.guarantee.specs.Frame.{operation-of, change-put, change-joins, good-change, row-epoch}
+use Rattle.guarantee.specs.Frame.{operation-of, change-put, change-joins, good-change, Owes, fifo-after, value-owes, job-owes, row-epoch}
 use Rattle.guarantee.specs.Lookups.{Holding, Lives, live-says, live-of, no-later-of}
 use Rattle.guarantee.specs.Changing.{Fine, fine-refused, fine-way, fine-call, last-below}
 use Rattle.guarantee.specs.Superseding.{super-fine}
@@ -52,8 +52,8 @@ in-place-as : {x y : Entry} {e r now before rr : ℕ} {st : State} {f : ℕ → 
     → InPlace y e r now before st f
 in-place-as a b c j q put = record { of = c; joins = j; epoch-is = q; put = rw (a, b) at put }
 
-module _ {sz : Sizes} {start : Jobs} {wk l tr : List ℕ} {p : Plain} (thread key s : ℕ) (g : Good sz start (store wk l tr) p)
-    (within : thread < sz .t) (begun : openEpoch tr thread ≢ 0) (lives : Lives g (jobName key) s) where
+module _ {sz : Sizes} {start : Jobs} {wk l tr : List ℕ} {p : Plain} (thread : ℕ) (name : Name) (s : ℕ) (g : Good sz start (store wk l tr) p)
+    (within : thread < sz .t) (begun : openEpoch tr thread ≢ 0) (lives : Lives g name s) where
   abbrev e : ℕ
   e = openEpoch tr thread
 
@@ -73,7 +73,7 @@ module _ {sz : Sizes} {start : Jobs} {wk l tr : List ℕ} {p : Plain} (thread ke
     epoch-is : old .working .epoch ≡ e
     epoch-is = rw at-slot same
 
-    rewritten-fine : (v : Value) → length v + 1 ≡ sz .w → Fine sz start l p thread (jobName key) (some v) (rewritten sz (table wk tr) e s v)
+    rewritten-fine : (v : Value) → length v + 1 ≡ sz .w → Fine sz start l p thread name (some v) (rewritten sz (table wk tr) e s v)
     unfolding rewritten
     rewritten-fine v long =
         let a = value-wrote {sz = sz} (g .working .sized) (lives .below) v long in
@@ -82,32 +82,32 @@ module _ {sz : Sizes} {start : Jobs} {wk l tr : List ℕ} {p : Plain} (thread ke
         rw (at-slot, key-contents wk (sz .n) (sz .w) s (omega (arith, g .working .sized .sizes .width-lo))) in
         let r : retiredIn sz tr s ≡ old .retired = rw at-slot in
         record {
-          good = good-change g (wrote-image a (g .working)) (j .head) (j .uid) (row-epoch g thread (jobName key) (some v) within)
+          good = good-change g (wrote-image a (g .working)) (j .head) (j .uid) (j .order) (row-epoch g thread name (some v) within) (fifo-after g e name (some v) (λ b. value-owes b))
               (rw (lives .named) at (set-inv (g .inv) (in-place-as x r current (change-joins g a j (lives .below)) epoch-is (change-put g a j (lives .below)))));
         }
 
-    turned-fine : Fine sz start l p thread (jobName key) none (turned sz (table wk tr) e s)
+    turned-fine : Owes g e name none → Fine sz start l p thread name none (turned sz (table wk tr) e s)
     unfolding turned
-    turned-fine =
+    turned-fine owes =
         let h = antiHeader e (header wk s) in
         let a = header-wrote (g .working .sized) (lives .below) h in
         let j = waiting-joins (g .notes) e s (lives .below) in
         let x : entry 3 e (header wk s .uid) (nameOf (header wk s .board) (getD words 0 0)) (drop 1 words) ≡ steps.turned (old .working) = rw (at-slot, same) in
         let r : retiredIn sz tr s ≡ old .retired = rw at-slot in
         record {
-          good = good-change g (wrote-image a (g .working)) (j .head) (j .uid) (row-epoch g thread (jobName key) none within)
+          good = good-change g (wrote-image a (g .working)) (j .head) (j .uid) (j .order) (row-epoch g thread name none within) (fifo-after g e name none owes)
               (rw (lives .named) at (turn-inv (g .inv) (in-place-as x r current (change-joins g a j (lives .below)) epoch-is (change-put g a j (lives .below)))));
         }
 
-    freed-fine : header wk s .kind ≡ 1 → Fine sz start l p thread (jobName key) none (freedAt sz (table wk tr) e s)
+    freed-fine : Owes g e name none → header wk s .kind ≡ 1 → Fine sz start l p thread name none (freedAt sz (table wk tr) e s)
     unfolding freedAt
-    freed-fine alloc =
+    freed-fine owes alloc =
         let a = header-wrote (g .working .sized) (lives .below) freeHeader in
         let j = joined-joins (g .notes) e s (lives .below) in
         let x : entry 0 0 0 (nameOf 0 (getD words 0 0)) (drop 1 words) ≡ steps.freed (old .working) = rw at-slot in
         let one : old .working .kind ≡ 1 = rw at-slot alloc in
         record {
-          good = good-change g (wrote-image a (g .working)) (j .head) (j .uid) (row-epoch g thread (jobName key) none within)
+          good = good-change g (wrote-image a (g .working)) (j .head) (j .uid) (j .order) (row-epoch g thread name none within) (fifo-after g e name none owes)
               (rw (lives .named) at (unmake-inv (g .inv) record {
                 change = in-place-as x (sym (lives .current)) current (change-joins g a j (lives .below)) epoch-is (change-put g a j (lives .below));
                 alloc = one;
@@ -115,20 +115,32 @@ module _ {sz : Sizes} {start : Jobs} {wk l tr : List ℕ} {p : Plain} (thread ke
         }
 
   -- ---- an older version gives way
-  module _ (newest : newer sz wk (jobName key) e ≡ false) (other : header wk s .epoch ≢ e) where
+  module _ (latest : old .working .epoch ≤ e) (other : header wk s .epoch ≢ e) where
     older : header wk s .epoch < e
-    older = let q : header wk s .epoch ≤ e = rw at-slot at (no-later-of g newest s (lives .payload .0) (lives .named)) in omega arith
+    older = let q : header wk s .epoch ≤ e = rw at-slot at latest in omega arith
 
-    updated-fine : note lastAt tr < sz .n → (v : Value) → length v + 1 ≡ sz .w → Fine sz start l p thread (jobName key) (some v) (updated sz (table wk tr) e s (job key v))
+    updated-fine : note lastAt tr < sz .n → (v : Value) → length v + 1 ≡ sz .w → Fine sz start l p thread name (some v) (updated sz (table wk tr) e s (job (name .key) v))
     unfolding updated
-    updated-fine h v long = super-fine thread key s (steps.updates v) g within begun long lives older 2 h
+    updated-fine h v long = super-fine thread name s (steps.updates v) g within begun long lives older (λ b. value-owes b) 2 h
 
-    covered-fine : note lastAt tr < sz .n → Fine sz start l p thread (jobName key) none (covered sz (table wk tr) e s key)
+    covered-fine : Owes g e name none → note lastAt tr < sz .n → Fine sz start l p thread name none (covered sz (table wk tr) e s (name .key))
     unfolding covered
-    covered-fine h =
+    covered-fine owes h =
         let zeros : Value = replicate (sz .w - 1) 0 in
         let long : length zeros + 1 ≡ sz .w = omega (arith, length-replicate {A = ℕ} (sz .w - 1) 0, g .working .sized .sizes .width-lo) in
-        super-fine thread key s (steps.removes zeros) g within begun long lives older 1 h
+        super-fine thread name s (steps.removes zeros) g within begun long lives older owes 1 h
+
+  -- ---- the job of the name goes away
+  pub gone-fine : old .working .epoch ≤ e → Owes g e name none → note lastAt tr < sz .n → Fine sz start l p thread name none (deleteAt sz (table wk tr) e s (name .key))
+  gone-fine latest owes last =
+      ⊎-elim
+      (λ (a : eqb (header wk s .epoch) e ≡ true).
+      ⊎-elim
+      (λ (b : eqb (header wk s .kind) 1 ≡ true). rw (delete-at-is sz (table wk tr) e s (name .key), a, b) (freed-fine (eqb-true _ _ a) owes (eqb-true _ _ b)))
+      (λ (b : eqb (header wk s .kind) 1 ≡ false). rw (delete-at-is sz (table wk tr) e s (name .key), a, b) (turned-fine (eqb-true _ _ a) owes))
+      (cases (eqb (header wk s .kind) 1)))
+      (λ (a : eqb (header wk s .epoch) e ≡ false). rw (delete-at-is sz (table wk tr) e s (name .key), a) (covered-fine latest (eqb-false _ _ a) owes last))
+      (cases (eqb (header wk s .epoch) e))
 
 -- ---- by what the look-up finds: 9 and 10
 module _ {sz : Sizes} {start : Jobs} {wk l tr : List ℕ} {p : Plain} (thread : ℕ) (g : Good sz start (store wk l tr) p)
@@ -141,8 +153,8 @@ module _ {sz : Sizes} {start : Jobs} {wk l tr : List ℕ} {p : Plain} (thread : 
   set-at-fine s j long h =
       let lives = live-of g (h .found) in
       ⊎-elim
-      (λ (a : eqb (header wk s .epoch) ep ≡ true). rw (set-at-is sz (table wk tr) ep s j, a) (rewritten-fine thread (j .key) s g within begun lives (eqb-true _ _ a) (j .value) long))
-      (λ (a : eqb (header wk s .epoch) ep ≡ false). rw (set-at-is sz (table wk tr) ep s j, a) (updated-fine thread (j .key) s g within begun lives (h .newest) (eqb-false _ _ a) last (j .value) long))
+      (λ (a : eqb (header wk s .epoch) ep ≡ true). rw (set-at-is sz (table wk tr) ep s j, a) (rewritten-fine thread (jobName (j .key)) s g within begun lives (eqb-true _ _ a) (j .value) long))
+      (λ (a : eqb (header wk s .epoch) ep ≡ false). rw (set-at-is sz (table wk tr) ep s j, a) (updated-fine thread (jobName (j .key)) s g within begun lives (no-later-of g (h .newest) s (lives .payload .0) (lives .named)) (eqb-false _ _ a) last (j .value) long))
       (cases (eqb (header wk s .epoch) ep))
 
   pub set-opened-fine : (j : Job) → length (j .value) + 1 ≡ sz .w → Fine sz start l p thread (jobName (j .key)) (some (j .value)) (setOpened sz (table wk tr) j ep)
@@ -157,14 +169,7 @@ module _ {sz : Sizes} {start : Jobs} {wk l tr : List ℕ} {p : Plain} (thread : 
   delete-at-fine : (s key : ℕ) → Holding sz (table wk tr) (jobName key) ep s → Fine sz start l p thread (jobName key) none (deleteAt sz (table wk tr) ep s key)
   delete-at-fine s key h =
       let lives = live-of g (h .found) in
-      ⊎-elim
-      (λ (a : eqb (header wk s .epoch) ep ≡ true).
-      ⊎-elim
-      (λ (b : eqb (header wk s .kind) 1 ≡ true). rw (delete-at-is sz (table wk tr) ep s key, a, b) (freed-fine thread key s g within begun lives (eqb-true _ _ a) (eqb-true _ _ b)))
-      (λ (b : eqb (header wk s .kind) 1 ≡ false). rw (delete-at-is sz (table wk tr) ep s key, a, b) (turned-fine thread key s g within begun lives (eqb-true _ _ a)))
-      (cases (eqb (header wk s .kind) 1)))
-      (λ (a : eqb (header wk s .epoch) ep ≡ false). rw (delete-at-is sz (table wk tr) ep s key, a) (covered-fine thread key s g within begun lives (h .newest) (eqb-false _ _ a) last))
-      (cases (eqb (header wk s .epoch) ep))
+      gone-fine thread (jobName key) s g within begun lives (no-later-of g (h .newest) s (lives .payload .0) (lives .named)) (λ b. job-owes b) last
 
   pub delete-open-fine : (key : ℕ) → Fine sz start l p thread (jobName key) none (deleteOpen sz (table wk tr) key ep)
   unfolding deleteOpen

@@ -16,12 +16,13 @@ use Rattle.advance.specs.Advance.{advance}
 use Rattle.advance.specs.Stages.{mostLines}
 use Rattle.sync.specs.Sync.{syncCheck, byReply}
 use Rattle.crash.specs.Reference.{Jobs}
-use Rattle.guarantee.specs.Trace.{Call, begins, ends, news, sets, deletes, reads, advances, syncs, writesBack, Plain, plain, toldAdvance, Moment, Trace, stay, one, followed, afterAdvance, afterLine, afterLines, syncing, through, run, moments}
+use Rattle.guarantee.specs.Trace.{Call, begins, ends, news, sets, deletes, reads, appends, takes, looks, advances, syncs, writesBack, Plain, plain, toldAdvance, Moment, Trace, stay, one, followed, afterAdvance, afterLine, afterLines, syncing, through, run, moments}
 use Rattle.guarantee.specs.Promise.{jobsOf, Started}
 use Rattle.guarantee.specs.Good.{Good, startOf}
 use Rattle.guarantee.specs.Opening.{begin-good, end-good}
 use Rattle.guarantee.specs.Making.{new-good}
 use Rattle.guarantee.specs.Replacing.{set-good, delete-good}
+use Rattle.guarantee.specs.Queueing.{append-good, take-good}
 use Rattle.guarantee.specs.Flushing.{write-back-good}
 use Rattle.guarantee.specs.Advancing.{advance-good}
 use Rattle.guarantee.specs.Starting.{start-good}
@@ -81,6 +82,7 @@ module _ (sz : Sizes) (start : Jobs) where
         opens = let o = g .opens in record { same = o .same; least = o .least; low = o .low; high = o .high; quiet = o .quiet };
         past = record { ended-hi = g .past .ended-hi; durable-hi = λ e i. omega (arith, h e i) };
         inv = g .inv;
+        fifo = g .fifo;
       }
 
   -- after an advance call, by its reply
@@ -125,6 +127,9 @@ module _ (sz : Sizes) (start : Jobs) where
   through-good (sets thread j) m g = good-one _ (set-good thread g j)
   through-good (deletes thread key) m g = good-one _ (delete-good thread g key)
   through-good (reads thread key) m g = good-one _ g
+  through-good (appends thread value) m g = good-one _ (append-good thread value g)
+  through-good (takes thread) m g = good-one _ (take-good thread g)
+  through-good (looks thread) m g = good-one _ g
   through-good advances m g = good-one _ (advanced-good m g)
   through-good (syncs lines) m g = synced-good (syncCheck (m .store)) lines m g
   through-good (writesBack slot code) m g = good-one _ (line-good (slot, code) m g)

@@ -10,7 +10,7 @@ use native.Mathlib.Omega.{arith}
 use native.Mathlib.Decide.{ℕ-discrete}
 use Rattle.search.specs.Bools.{and-left, and-right, and-both}
 use Rattle.image.specs.declared.header.Header.{Header}
-use Rattle.image.specs.Layout.{mostNumber, jobsBoard, filledKind, payloadKind}
+use Rattle.image.specs.Layout.{mostNumber, jobsBoard, queueBoard, filledKind, payloadKind}
 use Rattle.survival.specs.Survivors.{kept}
 use Rattle.acceptance.specs.Accept.{blankHeader, filledHeader, proper}
 use Rattle.acceptance.specs.Sound.{proper-cases}
@@ -62,7 +62,8 @@ says-proper c h line p = elim (ℕ-discrete (h .kind) 0) [
         le-leb (h .epoch) c (p .epoch-hi),
         le-leb 1 (h .uid) (p .uid-lo k),
         le-leb (h .uid) mostNumber (p .uid-hi),
-        eq-eqb (h .board) jobsBoard (p .board-is k),
+        le-leb jobsBoard (h .board) (p .board-lo k),
+        le-leb (h .board) queueBoard (p .board-hi),
       )
 ]
 
@@ -77,7 +78,8 @@ proper-says c h line p = elim (proper-cases c h p) [
     epoch-hi = omega arith;
     uid-lo = λ k. absurd (omega arith);
     uid-hi = omega arith;
-    board-is = λ k. absurd (omega arith);
+    board-lo = λ k. absurd (omega arith);
+    board-hi = omega arith;
   }
   | inr f ↦
       let k = filled-says (h .kind) (f .filled) in
@@ -90,6 +92,7 @@ proper-says c h line p = elim (proper-cases c h p) [
         epoch-hi = f .epoch-hi;
         uid-lo = λ _. f .uid-lo;
         uid-hi = f .uid-hi;
-        board-is = λ _. f .board-is;
+        board-lo = λ _. f .board-lo;
+        board-hi = f .board-hi;
       }
 ]

@@ -15,13 +15,13 @@ use Rattle.reply.specs.declared.Check.{Check}
 use Rattle.reply.specs.declared.Check.the-variants.{Accepted, Refused}
 use Rattle.reply.specs.declared.Refusal.the-variants.{BadSizes}
 use Rattle.reply.specs.Refusals.{not-refused}
-use Rattle.image.specs.Layout.{slotsOf}
+use Rattle.image.specs.Layout.{queueBoard, keyAt, slotsOf, widthOf}
 use Rattle.transient.specs.Layout.{threadsOk}
 use Rattle.transient.specs.Store.{Store, afterCheck}
-use Rattle.survival.specs.Survivors.{survivor}
+use Rattle.survival.specs.Survivors.{survivor, survivesOn}
 use Rattle.acceptance.specs.Accept.{imageCheck}
 use Rattle.recovery.specs.declared.Recovery.the-variants.{Done, Declined}
-use Rattle.recovery.specs.Recover.{nextFreed, nextUid, lengthsFit, recoverCheck, freeing, recover}
+use Rattle.recovery.specs.Recover.{nextFreed, nextUid, nextOrder, lengthsFit, recoverCheck, freeing, recover}
 use Rattle.recovery.specs.Requires.{uidOf, finished}
 use Rattle.recovery.specs.Steps.{filledAt, done-survivors}
 use Rattle.guarantee.specs.Promise.{Started, fresh, recovered}
@@ -30,25 +30,27 @@ use Rattle.guarantee.specs.Fresh.{fresh-good, formats}
 
 -- ---- a recovery that is done
 recovered-good : (l : List ℕ) (len : ℕ) → imageCheck l ≡ Accepted → nextFreed l (slotsOf l) ≡ Nothing → threadsOk len (slotsOf l) ≡ true
-    → Begins (finished l len (slotsOf l))
-unfolding finished filledAt nextUid
+    → Begins (finished l len (slotsOf l) (widthOf l))
+unfolding finished filledAt nextUid nextOrder
 recovered-good l len ok none t =
     let n = slotsOf l in
-    clean-good (blank-clean l len n (nextUid l n) ok (λ s h f. done-survivors l none s h ∙ f) (omega arith)
-    (λ s h v. omega (arith, largest-bounds (survivor l n) (uidOf l) n s h v)) t)
+    let w = widthOf l in
+    clean-good (blank-clean l len n (nextUid l n) (nextOrder l n w) ok (λ s h f. done-survivors l none s h ∙ f) (omega arith)
+    (λ s h v. omega (arith, largest-bounds (survivor l n) (uidOf l) n s h v))
+    (λ s h v. omega (arith, largest-bounds (survivesOn l n queueBoard) (keyAt l n w) n s h v)) t)
 
 -- what a call that replied done judged and found
 record Finishes (st : Store) : Type 0 where
   accepted : imageCheck (st .persistent) ≡ Accepted
   none : nextFreed (st .persistent) (slotsOf (st .persistent)) ≡ Nothing
   threads : threadsOk (length (st .transient)) (slotsOf (st .persistent)) ≡ true
-  leaves : recover st .store ≡ finished (st .persistent) (length (st .transient)) (slotsOf (st .persistent))
+  leaves : recover st .store ≡ finished (st .persistent) (length (st .transient)) (slotsOf (st .persistent)) (widthOf (st .persistent))
 
 -- only an accepted call with nothing to free replies done
-done-only : (k : Check) (f : Found) (st : Store) (n : ℕ) → afterCheck k Declined st (freeing f st n) .reply ≡ Done → (k ≡ Accepted) × (f ≡ Nothing)
-done-only (Refused r) f st n e = let z : _≡_ {A = ℕ} 0 1 = cc in absurd (omega arith)
-done-only Accepted (At s) st n e = let z : _≡_ {A = ℕ} 0 1 = cc in absurd (omega arith)
-done-only Accepted Nothing st n e = (refl, refl)
+done-only : (k : Check) (f : Found) (st : Store) (n w : ℕ) → afterCheck k Declined st (freeing f st n w) .reply ≡ Done → (k ≡ Accepted) × (f ≡ Nothing)
+done-only (Refused r) f st n w e = let z : _≡_ {A = ℕ} 0 1 = cc in absurd (omega arith)
+done-only Accepted (At s) st n w e = let z : _≡_ {A = ℕ} 0 1 = cc in absurd (omega arith)
+done-only Accepted Nothing st n w e = (refl, refl)
 
 finishes : (st : Store) → recover st .reply ≡ Done → Finishes st
 unfolding recover recoverCheck lengthsFit finished
@@ -56,7 +58,7 @@ finishes st e =
     let l = st .persistent in
     let n = slotsOf l in
     let fit = lengthsFit (length (st .working)) l (length (st .transient)) in
-    let d = done-only (recoverCheck st) (nextFreed l n) st n e in
+    let d = done-only (recoverCheck st) (nextFreed l n) st n (widthOf l) e in
     let entry = not-refused (not fit) BadSizes (imageCheck l) (d .0) in
     record {
       accepted = entry .1;

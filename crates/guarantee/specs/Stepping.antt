@@ -13,10 +13,10 @@ use Rattle.search.specs.Bools.{flag, refuted, and-left, and-right}
 use Rattle.image.specs.declared.header.Header.{Header}
 use Rattle.image.specs.Layout.{mostNumber}
 use Rattle.transient.specs.declared.sizes.Sizes.{Sizes}
-use Rattle.transient.specs.Layout.{note, nextUidAt, openEpoch, retiredIn, isWaiting, setRetired, setPlace}
+use Rattle.transient.specs.Layout.{note, nextUidAt, nextOrderAt, openEpoch, retiredIn, isWaiting, setRetired, setPlace}
 use Rattle.transient.specs.Store.{Store, store}
 use Rattle.transient.specs.Requires.{Notes, notes-after}
-use Rattle.transient.specs.Laws.{SlotKept, slot-then, place-long, place-opens, place-slots, place-uid, retired-front, retired-same, retired-waiting, retired-aside, phase-set, slot-set}
+use Rattle.transient.specs.Laws.{SlotKept, slot-then, place-long, place-opens, place-slots, place-uid, place-order, retired-front, retired-same, retired-waiting, retired-aside, phase-set, slot-set}
 use Rattle.step.specs.Step.{idle, reclaimNext, contentsNext, headerNext, clockNext, passing}
 use Rattle.crash.specs.Table.{Put}
 use Rattle.crash.specs.Reference.{Jobs}
@@ -87,12 +87,13 @@ pub record Noted (sz : Sizes) (tr tr′ : List ℕ) (s r : ℕ) : Type 0 where
   pub long : length tr′ ≡ length tr
   pub opens : (thread : ℕ) → thread < sz .t → openEpoch tr′ thread ≡ openEpoch tr thread
   pub uid : note nextUidAt tr′ ≡ note nextUidAt tr
+  pub order : note nextOrderAt tr′ ≡ note nextOrderAt tr
   pub others : (m : ℕ) → m ≢ s → SlotKept sz tr tr′ m
   pub waiting : (d : ℕ) → isWaiting sz tr′ d s ≡ isWaiting sz tr d s
   pub retired : retiredIn sz tr′ s ≡ r
 
 pub noted-none : {sz : Sizes} {tr : List ℕ} {s : ℕ} → Noted sz tr tr s (retiredIn sz tr s)
-noted-none = record { long = refl; opens = λ u h. refl; uid = refl; others = λ m d. record { retired = refl; waiting = λ e. refl }; waiting = λ d. refl; retired = refl }
+noted-none = record { long = refl; opens = λ u h. refl; uid = refl; order = refl; others = λ m d. record { retired = refl; waiting = λ e. refl }; waiting = λ d. refl; retired = refl }
 
 pub noted-place : (sz : Sizes) (tr : List ℕ) (s phase slot : ℕ) → Noted sz tr (setPlace tr phase slot) s (retiredIn sz tr s)
 noted-place sz tr s phase slot =
@@ -101,6 +102,7 @@ noted-place sz tr s phase slot =
       long = place-long tr sz phase slot;
       opens = λ u h. place-opens tr sz phase slot u;
       uid = place-uid tr sz phase slot;
+      order = place-order tr sz phase slot;
       others = λ m d. kept m;
       waiting = kept s .waiting;
       retired = kept s .retired;
@@ -114,6 +116,7 @@ noted-cleared {tr} {sz} y s phase slot h =
       long = z .long ∙ a .long;
       opens = λ u k. z .opens u k ∙ a .opens u k;
       uid = z .uid ∙ retired-front tr sz s 0 .uid;
+      order = z .order ∙ retired-front tr sz s 0 .order;
       others = λ m d. slot-then (retired-aside y s 0 m h d) (z .others m d);
       waiting = λ d. z .waiting d ∙ retired-waiting y s 0 d s h;
       retired = z .retired ∙ retired-same y s 0 h;
@@ -177,5 +180,6 @@ went-good {sz} {s} {r} {start} {st} {p} {wk} {l} y tr phase slot a b z e i =
         quiet = λ u h q. absurd (y .quiet u h (sym (ap (λ x. x + 1) (same u h)) ∙ q));
       };
       past = g .past;
-      inv = rw (phase-set v phase slot, slot-set v phase slot, e, z .uid) i;
+      inv = rw (phase-set v phase slot, slot-set v phase slot, e, z .uid, z .order) i;
+      fifo = g .fifo;
     }

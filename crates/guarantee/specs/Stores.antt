@@ -18,6 +18,10 @@ use Rattle.job_set.specs.Set.{setJob}
 use Rattle.job_set.specs.Stages.{setOpened, setSized}
 use Rattle.job_delete.specs.Delete.{deleteJob}
 use Rattle.job_delete.specs.Stages.{deleteOpen, deleteSized}
+use Rattle.queue_append.specs.Append.{appendEntry}
+use Rattle.queue_append.specs.Stages.{badValue, appendSized}
+use Rattle.queue_take.specs.Take.{takeEntry}
+use Rattle.queue_take.specs.Stages.{takeOpen, takeSized}
 use Rattle.step.specs.declared.Place.{Place}
 use Rattle.step.specs.declared.Advance.{Advance}
 use Rattle.step.specs.declared.Advance.the-variants.{WentOn, Ticked, Declined}
@@ -30,7 +34,7 @@ use Rattle.sync.specs.Sync.{syncCheck, byReply}
 use Rattle.write_back.specs.WriteBack.{writeBack}
 use Rattle.write_back.specs.Ways.{back-way}
 use Rattle.guarantee.specs.Changing.{call-way}
-use Rattle.guarantee.specs.Trace.{Call, begins, ends, news, sets, deletes, reads, advances, syncs, writesBack, Moment, Trace, stay, one, followed, afterAdvance, afterLine, afterLines, syncing, through, run}
+use Rattle.guarantee.specs.Trace.{Call, begins, ends, news, sets, deletes, reads, appends, takes, looks, advances, syncs, writesBack, Moment, Trace, stay, one, followed, afterAdvance, afterLine, afterLines, syncing, through, run}
 
 -- l′ is l, or l with one line stored: a header, contents, or the clock
 pub data OneLine (l : List ℕ) : List ℕ → Type 0 where
@@ -114,13 +118,16 @@ syncing-chained (suc more) (suc ticks) k lines m =
     (going-chained (advance (x .store) .reply) on tick (afterAdvance x) (syncing-chained more (suc ticks) (suc k) lines) (syncing-chained more ticks (suc k) lines)))
 
 through-chained : (c : Call) (m : Moment) → Chained m (through c m)
-unfolding through afterAdvance afterLine begin beginSized end endSized newJob newSized newOpen setJob setSized setOpened deleteJob deleteSized deleteOpen
+unfolding through afterAdvance afterLine begin beginSized end endSized newJob newSized newOpen setJob setSized setOpened deleteJob deleteSized deleteOpen appendEntry appendSized badValue takeEntry takeSized takeOpen
 through-chained (begins thread) m = one-step (job-none (m .store) (beginSized thread))
 through-chained (ends thread) m = one-step (job-none (m .store) (endSized thread))
 through-chained (news thread j) m = one-step (job-none (m .store) (newSized thread j))
 through-chained (sets thread j) m = one-step (job-none (m .store) (setSized thread j))
 through-chained (deletes thread key) m = one-step (job-none (m .store) (deleteSized thread key))
 through-chained (reads thread key) m = one-step none
+through-chained (appends thread value) m = one-step (job-none (m .store) (appendSized thread value))
+through-chained (takes thread) m = one-step (job-none (m .store) (takeSized thread))
+through-chained (looks thread) m = one-step none
 through-chained advances m = one-step (advance-one (m .store))
 through-chained (syncs lines) m = go (syncCheck (m .store))
   where

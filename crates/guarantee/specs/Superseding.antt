@@ -14,9 +14,9 @@ use Rattle.reply.specs.declared.Refusal.the-variants.{Full}
 use Rattle.image.specs.declared.header.Header.{Header}
 use Rattle.image.specs.Layout.{headerOf, header}
 use Rattle.image.specs.declared.name.Name.{Name}
-use Rattle.image.specs.Name.{names-meet, key-same, jobName}
+use Rattle.image.specs.Name.{names-meet, key-same}
 use Rattle.transient.specs.declared.sizes.Sizes.{Sizes}
-use Rattle.transient.specs.Layout.{note, lastAt, nextUidAt, openEpoch, isWaiting, setRetired}
+use Rattle.transient.specs.Layout.{note, lastAt, nextUidAt, nextOrderAt, openEpoch, isWaiting, setRetired}
 use Rattle.transient.specs.Store.{Store, store, table}
 use Rattle.transient.specs.Requires.{Notes, notes-after}
 use Rattle.transient.specs.Laws.{HeadKept, head-then, retired-front, retired-same, retired-waiting, retired-aside}
@@ -33,12 +33,12 @@ use Rattle.guarantee.specs.View.{entryOf, slotOf, view, view-in, view-pu
 use Rattle.guarantee.specs.Good.{Good}
 use Rattle.guarantee.specs.Notes.{Joined, taken-joins}
 use Rattle.guarantee.specs.Images.{Wrote, wrote-image, filled-wrote}
-use Rattle.guarantee.specs.Frame.{operation-of, change-joins, good-change, row-epoch}
+use Rattle.guarantee.specs.Frame.{operation-of, change-joins, good-change, Owes, fifo-after, row-epoch}
 use Rattle.guarantee.specs.Lookups.{Lives, room-says, free-says}
 use Rattle.guarantee.specs.Changing.{Fine, fine-refused}
 
 module _ {sz : Sizes} {start : Jobs} {st : Store} {p : Plain} (g : Good sz start st p)
-    {wk′ tr′ : List ℕ} {e f s u : ℕ} {h : Header} {words : List ℕ} (a : Wrote (st .working) wk′ sz f h words) (j : Joined sz (st .transient) tr′ e f 0 u)
+    {wk′ tr′ : List ℕ} {e f s u x : ℕ} {h : Header} {words : List ℕ} (a : Wrote (st .working) wk′ sz f h words) (j : Joined sz (st .transient) tr′ e f 0 u x)
     (k : f < sz .n) (i : s < sz .n) (apart : f ≢ s) where
   abbrev nd : Store
   nd = store wk′ (st .persistent) (setRetired sz tr′ s e)
@@ -95,18 +95,21 @@ module _ {sz : Sizes} {start : Jobs} {st : Store} {p : Plain} (g : Good sz start
   pub over-uid : note nextUidAt (setRetired sz tr′ s e) ≡ u
   over-uid = retired-front tr′ sz s e .uid ∙ j .uid
 
+  pub over-order : note nextOrderAt (setRetired sz tr′ s e) ≡ x
+  over-order = retired-front tr′ sz s e .order ∙ j .order
+
 -- the step with the uid and the name as the call has them, and the name as the slot has it
 over-as : {kind e s r : ℕ} {v : Value} {u : Option Value} {now before : ℕ} {st : State} {f : ℕ → Slot} {uid : ℕ} {k k′ : Name} → Inv st
     → uid ≡ st .slots r .working .uid → k ≡ st .slots r .working .name → k′ ≡ st .slots r .working .name → Successor kind v u → Current e r st → Joins (st .clock) e now before (st .slots s)
     → st .slots s .working .kind ≡ 0 → st .slots r .working .epoch < e
     → Put2 (st .slots) f s (filled (entry kind e uid k′ v) now before (st .slots s)) r (retiring e (st .slots r))
-    → Inv (after st f (st .uid) e k u)
+    → Inv (after st f (st .uid) (st .order) e k u)
 over-as i a b d o c j free older put = rw b (over-inv i record { outcome = o; of = c; joins = j; free = free; older = older; put = rw (a, d) at put })
 
 -- ---- set by a new UPDATE, delete by a new DELETE
-module _ {sz : Sizes} {start : Jobs} {wk l tr : List ℕ} {p : Plain} {kind : ℕ} {v : Value} {u : Option Value} (thread key s : ℕ) (o : Successor kind v u)
+module _ {sz : Sizes} {start : Jobs} {wk l tr : List ℕ} {p : Plain} {kind : ℕ} {v : Value} {u : Option Value} (thread : ℕ) (name : Name) (s : ℕ) (o : Successor kind v u)
     (g : Good sz start (store wk l tr) p) (within : thread < sz .t) (begun : openEpoch tr thread ≢ 0) (words : length v + 1 ≡ sz .w)
-    (lives : Lives g (jobName key) s) (older : header wk s .epoch < openEpoch tr thread) where
+    (lives : Lives g name s) (older : header wk s .epoch < openEpoch tr thread) (owes : Owes g (openEpoch tr thread) name u) where
   abbrev e : ℕ
   e = openEpoch tr thread
 
@@ -117,10 +120,10 @@ module _ {sz : Sizes} {start : Jobs} {wk l tr : List ℕ} {p : Plain} {kind : �
   at-slot = view-in (store wk l tr) sz (p .clock) s (lives .below)
 
   super-at : (f : ℕ) → f < sz .n → freeAt wk f ≡ true
-      → Good sz start (store (filledSlot sz wk f (headerOf kind e (header wk s .uid) (header wk s .board)) (key ∷ v)) l (setRetired sz (taken sz tr e f) s e))
-      (plain (p .clock) (p .operation) (p .row ++ (record { epoch = p .operation thread; name = jobName key; value = u } ∷ [])) (p .ended) (p .durable))
+      → Good sz start (store (filledSlot sz wk f (headerOf kind e (header wk s .uid) (header wk s .board)) (name .key ∷ v)) l (setRetired sz (taken sz tr e f) s e))
+      (plain (p .clock) (p .operation) (p .row ++ (record { epoch = p .operation thread; name = name; value = u } ∷ [])) (p .ended) (p .durable))
   super-at f h free =
-      let a = filled-wrote (g .working .sized) h (headerOf kind e (header wk s .uid) (header wk s .board)) (key ∷ v) (omega (arith, words)) in
+      let a = filled-wrote (g .working .sized) h (headerOf kind e (header wk s .uid) (header wk s .board)) (name .key ∷ v) (omega (arith, words)) in
       let j = taken-joins (g .notes) e f h in
       let empty = free-says g h free in
       let pay = lives .payload in
@@ -128,14 +131,15 @@ module _ {sz : Sizes} {start : Jobs} {wk l tr : List ℕ} {p : Plain} {kind : �
       let uid-is : header wk s .uid ≡ old .working .uid = rw at-slot in
       let epoch-is : header wk s .epoch ≡ old .working .epoch = rw at-slot in
       let board-is : header wk s .board ≡ old .working .name .board = rw at-slot in
-      good-change g (wrote-image a (g .working)) (over-head g a j h (lives .below) apart) (over-uid g a j h (lives .below) apart) (row-epoch g thread (jobName key) u within)
+      good-change g (wrote-image a (g .working)) (over-head g a j h (lives .below) apart) (over-uid g a j h (lives .below) apart) (over-order g a j h (lives .below) apart)
+      (row-epoch g thread name u within) (fifo-after g e name u owes)
       (over-as (g .inv) uid-is (sym (lives .named)) (names-meet board-is (key-same (sym (lives .named)))) o (record { operation = operation-of g thread within begun; payload = lives .payload; current = lives .current })
       (change-joins g a j h) empty (omega (arith, epoch-is, older)) (over-put g a j h (lives .below) apart))
 
   pub super-fine : (k : ℕ) → note lastAt tr < sz .n
-      → Fine sz start l p thread (jobName key) u (superseded (room sz (table wk tr) k) sz (table wk tr) e s (headerOf kind e (header wk s .uid) (header wk s .board)) (key ∷ v))
+      → Fine sz start l p thread name u (superseded (room sz (table wk tr) k) sz (table wk tr) e s (headerOf kind e (header wk s .uid) (header wk s .board)) (name .key ∷ v))
   super-fine k h = go (room sz (table wk tr) k) refl
     where
-      go : (f : Found) → room sz (table wk tr) k ≡ f → Fine sz start l p thread (jobName key) u (superseded f sz (table wk tr) e s (headerOf kind e (header wk s .uid) (header wk s .board)) (key ∷ v))
+      go : (f : Found) → room sz (table wk tr) k ≡ f → Fine sz start l p thread name u (superseded f sz (table wk tr) e s (headerOf kind e (header wk s .uid) (header wk s .board)) (name .key ∷ v))
       go (At f) q = let b = room-says sz (table wk tr) k f h q in record { good = super-at f (b .0) (b .1) }
       go Nothing q = fine-refused g Full

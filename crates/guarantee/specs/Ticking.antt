@@ -9,10 +9,10 @@ use Rattle.image.specs.Line.{clockLine, storeLine}
 use Rattle.image.specs.Requires.{sized-after}
 use Rattle.image.specs.Laws.{length-store, clock-same, word-past-clock, header-past-clock, contents-past-clock}
 use Rattle.transient.specs.declared.sizes.Sizes.{Sizes}
-use Rattle.transient.specs.Layout.{note, nextUidAt, openEpoch, retiredIn, isWaiting, setPlace, emptied}
+use Rattle.transient.specs.Layout.{note, nextUidAt, nextOrderAt, openEpoch, retiredIn, isWaiting, setPlace, emptied}
 use Rattle.transient.specs.Store.{Store, store}
 use Rattle.transient.specs.Requires.{Notes, notes-after}
-use Rattle.transient.specs.Laws.{SlotKept, waiting-again, place-long, place-opens, place-slots, place-uid, emptied-front, emptied-none, emptied-next, emptied-retired, phase-set, slot-set}
+use Rattle.transient.specs.Laws.{SlotKept, waiting-again, place-long, place-opens, place-slots, place-uid, place-order, emptied-front, emptied-none, emptied-next, emptied-retired, phase-set, slot-set}
 use Rattle.step.specs.Step.{Stepped, idle, ticking}
 use Rattle.advance.specs.Advance.{noted}
 use Rattle.advance.specs.Stages.{underway}
@@ -84,6 +84,9 @@ module _ {sz : Sizes} {start : Jobs} {st : Store} {p : Plain} (y : Ready sz star
   uid-same : note nextUidAt notes′ ≡ note nextUidAt (st .transient)
   uid-same = place-uid list sz idle 0 ∙ emptied-front (st .transient) sz (c - 1) .uid
 
+  order-same : note nextOrderAt notes′ ≡ note nextOrderAt (st .transient)
+  order-same = place-order list sz idle 0 ∙ emptied-front (st .transient) sz (c - 1) .order
+
   -- the table: the lists move on
   all : (s : ℕ) → view st′ sz (suc c) s ≡ ticked (view st sz c s)
   all s = elim (decLt s (sz .n)) [
@@ -134,6 +137,7 @@ module _ {sz : Sizes} {start : Jobs} {st : Store} {p : Plain} (y : Ready sz star
             quiet = λ u h q. rest v;
           };
           past = record { ended-hi = λ e m. omega (arith, g .past .ended-hi e m); durable-hi = λ e m. omega (arith, g .past .durable-hi e m) };
-          inv = rw (phase-set v idle 0, slot-set v idle 0, progress-idle (sz .n) 0, uid-same)
+          inv = rw (phase-set v idle 0, slot-set v idle 0, progress-idle (sz .n) 0, uid-same, order-same)
               (tick-inv i (record { swept = swept; flushed = flushed; all = all }));
+          fifo = g .fifo;
         }

@@ -4,17 +4,24 @@ use mathlib.Core.Bool.{cond}
 use mathlib.Core.List.{List, [], _∷_, _++_}
 use mathlib.Core.Option.{Option, none, some}
 use lib.Dec.{eqb}
+use Rattle.search.specs.First.{whereFound}
 use Rattle.reply.specs.declared.Check.{Check}
+use Rattle.reply.specs.declared.Check.the-variants.{Accepted}
 use Rattle.reply.specs.Refusals.{byCheck}
 use Rattle.image.specs.Layout.{slotsOf, clockOf}
 use Rattle.image.specs.declared.name.Name.{Name}
-use Rattle.image.specs.Name.{jobName}
-use Rattle.transient.specs.Store.{Store, Outcome}
+use Rattle.image.specs.Name.{jobName, entryName, nameAt}
+use Rattle.transient.specs.Store.{Store, tableOf, sizesOf, Outcome}
 use Rattle.begin_end.specs.Operation.{begin, end}
 use Rattle.jobs.specs.Job.{Job}
 use Rattle.job_new.specs.New.{newJob}
 use Rattle.job_set.specs.Set.{setJob}
 use Rattle.job_delete.specs.Delete.{deleteJob}
+use Rattle.queue.specs.Front.{frontSlot}
+use Rattle.queue_append.specs.declared.Append.{Append}
+use Rattle.queue_append.specs.declared.Append.the-variants.{Given, Declined}
+use Rattle.queue_append.specs.Append.{appendEntry}
+use Rattle.queue_take.specs.Take.{takeEntry}
 use Rattle.step.specs.declared.Advance.{Advance}
 use Rattle.advance.specs.Advance.{advance}
 use Rattle.sync.specs.Sync.{syncCheck, byReply}
@@ -30,6 +37,9 @@ pub data Call : Type 0 where
   sets : (thread : ℕ) (j : Job) → Call
   deletes : (thread : ℕ) (key : ℕ) → Call
   reads : (thread : ℕ) (key : ℕ) → Call
+  appends : (thread : ℕ) (value : List ℕ) → Call
+  takes : (thread : ℕ) → Call
+  looks : (thread : ℕ) → Call
   advances : Call
   syncs : (lines : ℕ → List (ℕ × ℕ)) → Call
   writesBack : (slot code : ℕ) → Call
@@ -60,6 +70,16 @@ abbrev pub toldChange : ℕ → Name → Option (List ℕ) → Check → Plain �
 toldChange thread name v k p =
     byCheck k (λ _. p)
     (plain (p .clock) (p .operation) (p .row ++ (record { epoch = p .operation thread; name = name; value = v } ∷ [])) (p .ended) (p .durable))
+
+-- 02, No. 3: "each entry under the order number that its append was given": an accepted append adds the entry of its reply
+abbrev pub toldAppend : ℕ → List ℕ → Append → Plain → Plain
+toldAppend thread value (Given order) p = toldChange thread (entryName order) (some value) Accepted p
+toldAppend thread value (Declined r) p = p
+
+-- .. and an accepted take takes away the entry that stood at the front; that it is the smallest is a claim (`Promise .fifo`)
+abbrev pub frontName : Store → Name
+frontName st =
+    let z = sizesOf (tableOf st) in whereFound (frontSlot z (tableOf st)) (nameAt (st .working) (z .n) (z .w)) (entryName 0)
 
 -- "Ticked, from an advance call or one within a sync, adds 1 to the clock. All else, any refused call too, changes nothing."
 abbrev pub toldAdvance : Advance → Plain → Plain
@@ -118,6 +138,9 @@ through (news thread j) m = one (told (newJob (m .store) thread j) (toldChange t
 through (sets thread j) m = one (told (setJob (m .store) thread j) (toldChange thread (jobName (j .key)) (some (j .value))) m)
 through (deletes thread key) m = one (told (deleteJob (m .store) thread key) (toldChange thread (jobName key) none) m)
 through (reads thread key) m = one m
+through (appends thread value) m = one (told (appendEntry (m .store) thread value) (toldAppend thread value) m)
+through (takes thread) m = one (told (takeEntry (m .store) thread) (toldChange thread (frontName (m .store)) none) m)
+through (looks thread) m = one m
 through advances m = one (afterAdvance m)
 through (syncs lines) m = byCheck (syncCheck (m .store)) (λ _. stay m) (syncing (2 * (3 * slotsOf (m .store .working) + 1)) 2 0 lines m)
 through (writesBack slot code) m = one (afterLine (slot, code) m)
