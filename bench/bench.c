@@ -64,7 +64,7 @@ static bool same_bed(const struct bed *a, const struct bed *b)
     return memcmp(a->working, b->working, (2 * a->image + a->notes) * sizeof *a->working) == 0;
 }
 
-/* ---- Stores to measure on. Jobs are numbered from 1 ---- */
+/* ---- Stores to measure on. Jobs are numbered from 1, and so are entries of the queue ---- */
 
 static void sync_bed(struct bed *b)
 {
@@ -97,6 +97,26 @@ static void half_full(struct bed *b) { old_jobs(b, b->slots / 2); }
 static void half_full_open(struct bed *b)
 {
     half_full(b);
+    begin(b);
+}
+
+/* A quarter of the slots hold jobs and a quarter entries of the queue, in turn, of an old epoch. */
+static void half_queue(struct bed *b)
+{
+    format_bed(b);
+    begin(b);
+    for (uint32_t number = 1; number <= b->slots / 4; number++) {
+        new_jobs(b, number, 1);
+        if (board_append(BED(b), 0, value, VALUE_WORDS) != number)
+            fail("append declined");
+    }
+    end(b);
+    sync_bed(b);
+}
+
+static void half_queue_open(struct bed *b)
+{
+    half_queue(b);
     begin(b);
 }
 
@@ -173,6 +193,10 @@ static uint64_t do_delete(const struct calls *c, struct bed *b) { return c->dele
 static uint64_t do_read(const struct calls *c, struct bed *b) { return c->read(BED(b), 1, b->key); }
 static uint64_t do_read_absent(const struct calls *c, struct bed *b) { return c->read(BED(b), 1, b->slots + b->key); }
 
+static uint64_t do_append(const struct calls *c, struct bed *b) { return c->append(BED(b), 0, value, VALUE_WORDS); }
+static uint64_t do_take(const struct calls *c, struct bed *b) { return c->take(BED(b), 0); }
+static uint64_t do_look(const struct calls *c, struct bed *b) { return c->look(BED(b), 1); }
+
 static uint64_t do_advance(const struct calls *c, struct bed *b)
 {
     uint64_t lines = 1;
@@ -215,6 +239,9 @@ static const struct measure {
     {"delete", half_full_open, do_delete, false, 0},
     {"read, present", half_full, do_read, false, UINT64_MAX},
     {"read, absent", half_full, do_read_absent, false, BOARD_REFUSED + BOARD_NO_JOB},
+    {"append", half_queue_open, do_append, false, UINT64_MAX},
+    {"take", half_queue_open, do_take, false, 0},
+    {"look", half_queue, do_look, false, UINT64_MAX},
     {"advance, per line", at_work, do_advance, true, UINT64_MAX},
     {"durable change", settled, do_durable, false, UINT64_MAX},
     {"recovery, nothing to free", full, do_recover, false, 1},

@@ -14,9 +14,9 @@
 
 enum { FREE, ALLOC, UPDATE, DELETE };
 enum { KIND, EPOCH, UID, BOARD, HEADER_WORDS };
-enum { JOBS = 1 }; /* the board of jobs, the only one yet */
+enum { JOBS = 1, QUEUE = 2 }; /* the two boards */
 enum { SLOTS, WORDS, CLOCK, PREFIX };
-enum { NOTED_SLOTS, LAST_TAKEN, NEXT_UID, PHASE, PLACE_SLOT, NOTES };
+enum { NOTED_SLOTS, LAST_TAKEN, NEXT_UID, NEXT_ORDER, PHASE, PLACE_SLOT, NOTES };
 enum { IDLE, RECLAIMING, CONTENTS, HEADER, TICK };
 enum { MOST_SLOTS = 1024, MOST_WORDS = 9, MOST_THREADS = 16 };
 enum { MOST_IMAGE = PREFIX + (HEADER_WORDS + MOST_WORDS) * MOST_SLOTS };
@@ -63,7 +63,8 @@ static uint32_t enter(struct board *b, READ_STORE)
         return BOARD_SIZES;
     size_t slots = working[SLOTS];
     if (!notes_length_ok(transient_words, slots) || transient[NOTED_SLOTS] != slots ||
-        transient[LAST_TAKEN] >= slots || transient[PLACE_SLOT] >= slots || transient[NEXT_UID] - 1 > LARGEST)
+        transient[LAST_TAKEN] >= slots || transient[PLACE_SLOT] >= slots || transient[NEXT_UID] - 1 > LARGEST ||
+        transient[NEXT_ORDER] - 1 > LARGEST)
         return BOARD_SIZES;
     uint32_t clock = working[CLOCK];
     if (!clock_ok(clock) || persistent[CLOCK] != clock)
@@ -107,6 +108,7 @@ uint32_t BYHAND(format)(STORE, uint32_t slots, uint32_t words)
     transient[NOTED_SLOTS] = slots;
     transient[LAST_TAKEN] = slots - 1;
     transient[NEXT_UID] = 1;
+    transient[NEXT_ORDER] = 1;
     return 0;
 }
 
@@ -165,9 +167,8 @@ static size_t find_live(const struct board *b, uint32_t key)
     return NONE;
 }
 
-/* Refusals 1, 2, 5, 7, 8 and 9, the caller's epoch and the live slot of its key. Delete has no value: NONE. */
-static uint32_t find(struct board *b, READ_STORE, uint32_t thread, uint32_t key, size_t value_words, uint32_t *epoch,
-                     size_t *live)
+/* Refusals 1, 2, 5 and 7, and the caller's epoch. */
+static uint32_t enter_open(struct board *b, READ_STORE, uint32_t thread, uint32_t *epoch)
 {
     uint32_t refusal = enter(b, working, working_words, persistent, persistent_words, transient, transient_words);
     if (refusal != 0)
@@ -175,8 +176,20 @@ static uint32_t find(struct board *b, READ_STORE, uint32_t thread, uint32_t key,
     if (thread >= b->threads)
         return BOARD_NO_THREAD;
     *epoch = b->open[thread];
-    if (*epoch == 0)
-        return BOARD_NOT_OPEN;
+    return *epoch == 0 ? BOARD_NOT_OPEN : 0;
+}
+
+#define ENTER_OPEN(b, thread, epoch) enter_open(&b, working, working_words, persistent, persistent_words, transient, \
+                                                transient_words, thread, &epoch)
+
+/* Refusals 1, 2, 5, 7, 8 and 9, the caller's epoch and the live slot of its key. Delete has no value: NONE. */
+static uint32_t find(struct board *b, READ_STORE, uint32_t thread, uint32_t key, size_t value_words, uint32_t *epoch,
+                     size_t *live)
+{
+    uint32_t refusal = enter_open(b, working, working_words, persistent, persistent_words, transient, transient_words,
+                                  thread, epoch);
+    if (refusal != 0)
+        return refusal;
     if (key == 0 || (value_words != NONE && value_words != b->words - 1))
         return BOARD_BAD_ARGUMENT;
     return look_up(b, key, *epoch, live);
@@ -199,7 +212,7 @@ static size_t room(const struct board *b, size_t needed)
 }
 
 /* A free slot is taken; a value of NULL is zeros. */
-static void take(const struct board *b, size_t slot, const uint32_t header[HEADER_WORDS], uint32_t key,
+static void fill(const struct board *b, size_t slot, const uint32_t header[HEADER_WORDS], uint32_t key,
                  const uint32_t *value)
 {
     uint32_t *contents = b->contents + b->words * slot;
@@ -229,7 +242,7 @@ uint32_t BYHAND(new)(CHANGE_STORE, uint32_t thread, uint32_t key, const uint32_t
     size_t slot = room(&b, 2);
     if (slot == NONE)
         return BOARD_FULL;
-    take(&b, slot, (uint32_t[]){ALLOC, epoch, uid, JOBS}, key, value);
+    fill(&b, slot, (uint32_t[]){ALLOC, epoch, uid, JOBS}, key, value);
     b.notes[NEXT_UID] = uid + 1;
     return 0;
 }
@@ -254,8 +267,28 @@ uint32_t BYHAND(set)(CHANGE_STORE, uint32_t thread, uint32_t key, const uint32_t
     size_t slot = room(&b, 2);
     if (slot == NONE)
         return BOARD_FULL;
-    take(&b, slot, (uint32_t[]){UPDATE, epoch, header[UID], header[BOARD]}, key, value);
+    fill(&b, slot, (uint32_t[]){UPDATE, epoch, header[UID], header[BOARD]}, key, value);
     b.retired[live] = epoch;
+    return 0;
+}
+
+/* A live payload goes: freed at once, turned into a DELETE, or covered by one. */
+static uint32_t end_payload(const struct board *b, size_t live, uint32_t epoch)
+{
+    uint32_t *header = b->headers + HEADER_WORDS * live;
+    if (header[EPOCH] == epoch) {
+        if (header[KIND] == ALLOC)
+            memset(header, 0, HEADER_WORDS * sizeof *header);
+        else
+            header[KIND] = DELETE;
+        waiting(b, epoch)[live] = 1;
+        return 0;
+    }
+    size_t slot = room(b, 1);
+    if (slot == NONE)
+        return BOARD_FULL;
+    fill(b, slot, (uint32_t[]){DELETE, epoch, header[UID], header[BOARD]}, b->contents[b->words * live], NULL);
+    b->retired[live] = epoch;
     return 0;
 }
 
@@ -268,25 +301,7 @@ uint32_t BYHAND(delete)(CHANGE_STORE, uint32_t thread, uint32_t key)
                             thread, key, NONE, &epoch, &live);
     if (refusal != 0)
         return refusal;
-    if (live == NONE)
-        return BOARD_NO_JOB;
-    uint32_t *header = b.headers + HEADER_WORDS * live;
-    if (header[EPOCH] == epoch) {
-        if (header[KIND] == ALLOC) {
-            memset(header, 0, HEADER_WORDS * sizeof *header);
-            b.retired[live] = 0;
-        } else {
-            header[KIND] = DELETE;
-        }
-        waiting(&b, epoch)[live] = 1;
-        return 0;
-    }
-    size_t slot = room(&b, 1);
-    if (slot == NONE)
-        return BOARD_FULL;
-    take(&b, slot, (uint32_t[]){DELETE, epoch, header[UID], header[BOARD]}, key, NULL);
-    b.retired[live] = epoch;
-    return 0;
+    return live == NONE ? BOARD_NO_JOB : end_payload(&b, live, epoch);
 }
 
 uint64_t BYHAND(read)(READ_STORE, uint32_t thread, uint32_t key)
@@ -305,6 +320,82 @@ uint64_t BYHAND(read)(READ_STORE, uint32_t thread, uint32_t key)
     else if (look_up(&b, key, b.open[thread], &live) != 0)
         return BOARD_REFUSED + BOARD_NEWER;
     return live == NONE ? BOARD_REFUSED + BOARD_NO_JOB : contents_at(b.slots) + b.words * live + 1;
+}
+
+/* Refusal 9 of the queue calls: any slot of the queue that is of a later epoch. */
+static bool queue_newer(const struct board *b, uint32_t epoch)
+{
+    for (const uint32_t *header = b->headers; header < b->headers + HEADER_WORDS * b->slots; header += HEADER_WORDS)
+        if (header[BOARD] == QUEUE && header[EPOCH] > epoch && filled(header[KIND]))
+            return true;
+    return false;
+}
+
+/* Refusals 9 and 17, else 0 and the live entry with the smallest order number: one walk for all. */
+static uint32_t find_front(const struct board *b, uint32_t epoch, size_t *front)
+{
+    uint64_t least = UINT64_MAX;
+    for (size_t s = 0; s < b->slots; s++) {
+        const uint32_t *header = b->headers + HEADER_WORDS * s;
+        if (header[BOARD] != QUEUE)
+            continue;
+        if (header[EPOCH] > epoch && filled(header[KIND]))
+            return BOARD_NEWER;
+        uint32_t order = b->contents[b->words * s];
+        if (order < least && payload(header[KIND]) && b->retired[s] == 0) {
+            least = order;
+            *front = s;
+        }
+    }
+    return least == UINT64_MAX ? BOARD_EMPTY : 0;
+}
+
+uint64_t BYHAND(append)(CHANGE_STORE, uint32_t thread, const uint32_t *value, size_t value_words)
+{
+    struct board b;
+    uint32_t epoch;
+    uint32_t refusal = ENTER_OPEN(b, thread, epoch);
+    if (refusal != 0)
+        return BOARD_REFUSED + refusal;
+    if (value_words != b.words - 1)
+        return BOARD_REFUSED + BOARD_BAD_ARGUMENT;
+    if (queue_newer(&b, epoch))
+        return BOARD_REFUSED + BOARD_NEWER;
+    uint32_t uid = b.notes[NEXT_UID], order = b.notes[NEXT_ORDER];
+    if (uid > LARGEST || order > LARGEST)
+        return BOARD_REFUSED + BOARD_NO_UID;
+    size_t slot = room(&b, 2);
+    if (slot == NONE)
+        return BOARD_REFUSED + BOARD_FULL;
+    fill(&b, slot, (uint32_t[]){ALLOC, epoch, uid, QUEUE}, order, value);
+    b.notes[NEXT_UID] = uid + 1;
+    b.notes[NEXT_ORDER] = order + 1;
+    return order;
+}
+
+uint32_t BYHAND(take)(CHANGE_STORE, uint32_t thread)
+{
+    struct board b;
+    uint32_t epoch;
+    size_t front = 0;
+    uint32_t refusal = ENTER_OPEN(b, thread, epoch);
+    if (refusal == 0)
+        refusal = find_front(&b, epoch, &front);
+    return refusal != 0 ? refusal : end_payload(&b, front, epoch);
+}
+
+uint64_t BYHAND(look)(READ_STORE, uint32_t thread)
+{
+    struct board b;
+    size_t front = 0;
+    uint32_t refusal = ENTER(b);
+    if (refusal != 0)
+        return BOARD_REFUSED + refusal;
+    if (thread >= b.threads)
+        return BOARD_REFUSED + BOARD_NO_THREAD;
+    uint32_t epoch = b.open[thread] != 0 ? b.open[thread] : UINT32_MAX; /* with none open no slot is newer */
+    refusal = find_front(&b, epoch, &front);
+    return refusal != 0 ? BOARD_REFUSED + refusal : contents_at(b.slots) + b.words * front + 1;
 }
 
 static void store_line(const struct board *b, size_t at, size_t words)
@@ -443,8 +534,11 @@ static bool proper(const uint32_t *header, uint32_t clock)
     if (header[KIND] == FREE)
         return header[EPOCH] == 0 && header[UID] == 0 && header[BOARD] == 0;
     return header[KIND] <= DELETE && header[EPOCH] >= 2 && header[EPOCH] <= clock && header[UID] - 1 < LARGEST &&
-           header[BOARD] == JOBS;
+           header[BOARD] - 1 < QUEUE;
 }
+
+/* A key that a survivor may have. */
+static bool key_ok(uint32_t board, uint32_t key) { return key != 0 && (board != QUEUE || key <= LARGEST); }
 
 /* Refusals 1 to 4 of an image, and which of its slots survive. Every pair of kept slots is looked at once. */
 static uint32_t judge(const uint32_t *image, size_t length, bool survives[MOST_SLOTS])
@@ -475,7 +569,7 @@ static uint32_t judge(const uint32_t *image, size_t length, bool survives[MOST_S
         }
     }
     for (size_t s = 0; s < slots; s++)
-        if (survives[s] && contents[words * s] == 0)
+        if (survives[s] && !key_ok(headers[HEADER_WORDS * s + BOARD], contents[words * s]))
             return BOARD_BAD_SLOT;
     for (size_t s = 0; s < slots && !twice; s++)
         for (size_t t = 0; survives[s] && t < s; t++)
@@ -494,13 +588,15 @@ uint64_t BYHAND(recover)(STORE)
     uint32_t refusal = judge(persistent, persistent_words, survives);
     if (refusal != 0)
         return BOARD_REFUSED + refusal;
-    size_t slots = persistent[SLOTS], anti = NONE;
-    uint32_t *headers = persistent + PREFIX, uid = 0;
+    size_t slots = persistent[SLOTS], words = persistent[WORDS], anti = NONE;
+    uint32_t *headers = persistent + PREFIX, *contents = persistent + contents_at(slots), uid = 0, order = 0;
     for (size_t s = 0; s < slots; s++) {
         uint32_t *header = headers + HEADER_WORDS * s;
         if (survives[s]) {
             if (header[UID] > uid)
                 uid = header[UID];
+            if (header[BOARD] == QUEUE && contents[words * s] > order)
+                order = contents[words * s];
         } else if (header[KIND] == DELETE && kept(header, persistent[CLOCK])) {
             if (anti == NONE)
                 anti = s;
@@ -518,6 +614,7 @@ uint64_t BYHAND(recover)(STORE)
     transient[NOTED_SLOTS] = (uint32_t)slots;
     transient[LAST_TAKEN] = (uint32_t)slots - 1;
     transient[NEXT_UID] = uid + 1;
+    transient[NEXT_ORDER] = order + 1;
     return BOARD_DONE;
 }
 
@@ -535,6 +632,6 @@ uint64_t BYHAND(survivors)(const uint8_t *image, size_t bytes)
         return BOARD_REFUSED + refusal;
     uint64_t count = 0;
     for (size_t s = 0; s < words[SLOTS]; s++)
-        count += survives[s];
+        count += survives[s] && words[PREFIX + HEADER_WORDS * s + BOARD] == JOBS;
     return count;
 }

@@ -30,15 +30,62 @@ static uint32_t read_jobs(const struct calls *calls, STORE, uint32_t count, stru
     return open;
 }
 
+const struct hand_over *find_order(const struct queue *queue, uint32_t order)
+{
+    for (uint32_t i = 0; i < queue->count; i++)
+        if (queue->waiting[i].order == order)
+            return &queue->waiting[i];
+    return NULL;
+}
+
+/* The queue as a board shows it, taken from the front until nothing waits; then what the next append is given. */
+static uint32_t read_queue(const struct calls *calls, STORE, struct queue *queue)
+{
+#define ITS working, working_words, persistent, persistent_words, transient, transient_words, 0
+    const uint32_t value[VALUE_WORDS] = {0};
+    uint64_t answer = calls->begin(ITS), at;
+    memset(queue, 0, sizeof *queue);
+    while (answer == 0 && (at = calls->look(ITS)) < BOARD_REFUSED && queue->count < 2 * MOST_WAITING) {
+        struct hand_over *last = &queue->waiting[queue->count++];
+        last->order = working[at - 1];
+        memcpy(last->value, working + at, sizeof last->value);
+        answer = calls->take(ITS);
+    }
+    if (answer != 0)
+        stop("begin or take", answer);
+    answer = calls->append(ITS, value, VALUE_WORDS);
+    return answer < BOARD_REFUSED ? (uint32_t)answer : 0;
+#undef ITS
+}
+
+static bool same_queue(const struct queue *a, const struct queue *b)
+{
+    return a->count == b->count && memcmp(a->waiting, b->waiting, a->count * sizeof *a->waiting) == 0;
+}
+
+static uint32_t *copy(const uint32_t *words, size_t count)
+{
+    return memcpy(block(count * sizeof *words), words, count * sizeof *words);
+}
+
 void before_cut(const struct desk *d, struct outcome *o)
 {
+    uint32_t *working = copy(d->working, d->image), *persistent = copy(d->persistent, d->image),
+             *transient = copy(d->transient, d->notes);
     o->open_before = read_jobs(d->calls, STORE_OF(d), d->jobs, o->before);
+    read_queue(d->calls, working, d->image, persistent, d->image, transient, d->notes, &o->queue_before);
+    free(working);
+    free(persistent);
+    free(transient);
 }
 
 /* What is lost, and what is not as the log has it. */
 static void hold_against_log(const struct desk *d, struct outcome *o)
 {
     replay(d, o->clock - 2, o->due);
+    replay_queue(d, o->clock - 2, &o->queue_due);
+    uint32_t last = o->queue_due.count > 0 ? o->queue_due.waiting[o->queue_due.count - 1].order : 0;
+    o->queue_wrong = !same_queue(&o->queue_after, &o->queue_due) || o->next_order != last + 1;
     o->lost = o->wrong = o->returned = o->closed = 0;
     for (const struct change *change = d->log; change < d->log + d->changes; change++) {
         o->lost += change->epoch > o->clock - 2;
@@ -52,8 +99,7 @@ static void hold_against_log(const struct desk *d, struct outcome *o)
 
 void recover(const struct desk *d, struct outcome *o)
 {
-    uint32_t *working = block(d->image * 4), *persistent = block(d->image * 4), *transient = block(d->notes * 4);
-    memcpy(persistent, d->persistent, d->image * 4);
+    uint32_t *working = block(d->image * 4), *persistent = copy(d->persistent, d->image), *transient = block(d->notes * 4);
     memset(working, 0xA5, d->image * 4);
     memset(transient, 0xA5, d->notes * 4);
     o->clock = persistent[CLOCK];
@@ -66,6 +112,7 @@ void recover(const struct desk *d, struct outcome *o)
     if (answer != BOARD_DONE)
         stop("recover", answer);
     read_jobs(&library, working, d->image, persistent, d->image, transient, d->notes, d->jobs, o->after);
+    o->next_order = read_queue(&library, working, d->image, persistent, d->image, transient, d->notes, &o->queue_after);
     free(working);
     free(persistent);
     free(transient);
@@ -125,6 +172,7 @@ static void count_cut(struct desk *d)
     t->cuts++;
     t->recovered += t->o.calls;
     t->wrong_cuts += t->o.wrong > 0;
+    t->queue_wrong_cuts += t->o.queue_wrong;
     t->returned_cuts += t->o.returned > 0;
     if (t->o.lost > t->most_lost)
         t->most_lost = t->o.lost;

@@ -6,9 +6,12 @@
 
 #include <time.h>
 
-/* The jobs before the cut, after recovery, and as they are due by the log. */
+/* The jobs and the queue before the cut, after recovery, and as they are due by the log. */
 struct outcome {
     struct job before[MOST_JOBS], after[MOST_JOBS], due[MOST_JOBS];
+    struct queue queue_before, queue_after, queue_due;
+    uint32_t next_order; /* what an append after recovery is given */
+    bool queue_wrong;    /* the queue is not as every older change left it, or the next number does not go on from it */
     uint32_t clock, calls, open_before;
     uint32_t lost;     /* changes of the last two epochs */
     uint32_t wrong;    /* jobs that are not as every older change left them */
@@ -18,7 +21,10 @@ struct outcome {
 
 bool same_job(const struct job *a, const struct job *b);
 
-/* The jobs as the desk's board shows them now. */
+/* The place of a hand-over in a queue, or NULL. */
+const struct hand_over *find_order(const struct queue *queue, uint32_t order);
+
+/* The jobs and the queue as the desk's board shows them now. */
 void before_cut(const struct desk *d, struct outcome *o);
 
 /* The power is cut now: of a copy of the lasting image alone, the library's recovery makes a board. */
@@ -41,7 +47,7 @@ void find_worst(struct desk *d, struct worst *worst, uint32_t stops, uint64_t se
 /* What every cut of a day came to. */
 struct tally {
     struct outcome o;
-    uint64_t cuts, all, recovered, wrong_cuts, returned_cuts;
+    uint64_t cuts, all, recovered, wrong_cuts, queue_wrong_cuts, returned_cuts;
     uint32_t most_lost, most_returned;
     time_t said;
 };

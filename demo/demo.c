@@ -68,6 +68,37 @@ static void side_by_side(const struct desk *d, const struct outcome *o)
         printf("    ... and %" PRIu32 " more that differ\n", other - SHOWN_OTHER);
 }
 
+static void print_hand_over(const struct hand_over *one)
+{
+    if (one != NULL)
+        printf("  %5" PRIu32 " %8" PRIu32 " %8" PRIu32 " %7" PRIu32, one->order, one->value[PARCEL], one->value[GIVER],
+               one->value[RECEIVER]);
+    else
+        printf("  %5s %8s %8s %7s", "-", "-", "-", "-");
+}
+
+/* The queue before and after side by side, in order: what was taken in the last two epochs waits again, what was appended
+   then is gone. No order number is above the number of changes. */
+static void queues_side_by_side(const struct desk *d, const struct outcome *o)
+{
+    printf("\n  THE QUEUE OF HAND-OVERS, the first of them first\n");
+    printf("  %5s %8s %8s %7s     %5s %8s %8s %7s\n", "no.", "parcel", "from", "to", "no.", "parcel", "from", "to");
+    for (uint32_t order = 1; order <= d->changes; order++) {
+        const struct hand_over *before = find_order(&o->queue_before, order);
+        const struct hand_over *after = find_order(&o->queue_after, order);
+        if (before == NULL && after == NULL)
+            continue;
+        const struct change *change = last_hand_over(d, order);
+        print_hand_over(before);
+        printf("  ");
+        print_hand_over(after);
+        if (before != NULL && after != NULL)
+            printf("   the same\n");
+        else
+            printf("   %s %s, lost\n", change->kind == TAKEN ? "taken" : "appended", hour(change->minute));
+    }
+}
+
 static void print_cut(const struct desk *d, uint64_t all)
 {
     printf("The power fails at %s, right after store %" PRIu64 " of the day's %" PRIu64 "; the clock is %" PRIu32
@@ -88,6 +119,8 @@ static void print_account(const struct desk *d, const struct outcome *o)
         printf("  lost: nothing\n");
     printf("  kept: all %zu changes made before, each job just as they left it: %s\n", d->changes - o->lost,
            verdict(o->wrong == 0));
+    printf("  waiting: %" PRIu32 " hand-overs in the order in which they came, and the next is no. %" PRIu32 ": %s\n",
+           o->queue_after.count, o->next_order, verdict(!o->queue_wrong));
 }
 
 static void show_first_day(uint32_t jobs, uint64_t seed)
@@ -103,6 +136,7 @@ static void show_first_day(uint32_t jobs, uint64_t seed)
     printf("FIRST DAY: %" PRIu32 " jobs are open\n", o.open_before);
     print_cut(&d, all);
     side_by_side(&d, &o);
+    queues_side_by_side(&d, &o);
     print_account(&d, &o);
     close_desk(&d);
 }
@@ -186,6 +220,8 @@ static void every_cut(uint32_t jobs, uint32_t stops, uint64_t seed)
     printf("FIRST DAY, %" PRIu32 " jobs: %" PRIu64 " cuts, %" PRIu64 " recover calls\n", jobs, t->cuts, t->recovered);
     printf("  everything older than two epochs is there at %" PRIu64 " of %" PRIu64 " cuts: %s\n",
            t->cuts - t->wrong_cuts, t->cuts, verdict(t->wrong_cuts == 0));
+    printf("  the queue of hand-overs is in order at %" PRIu64 " of %" PRIu64 " cuts: %s\n",
+           t->cuts - t->queue_wrong_cuts, t->cuts, verdict(t->queue_wrong_cuts == 0));
     printf("  the most changes lost at one cut: %" PRIu32 "\n\n", t->most_lost);
 
     t = count_day(second_day, &library, stops, slots_for(stops / 3), seed);
@@ -193,6 +229,8 @@ static void every_cut(uint32_t jobs, uint32_t stops, uint64_t seed)
            t->recovered);
     printf("  everything older than two epochs is there at %" PRIu64 " of %" PRIu64 " cuts: %s\n",
            t->cuts - t->wrong_cuts, t->cuts, verdict(t->wrong_cuts == 0));
+    printf("  the queue of hand-overs is in order at %" PRIu64 " of %" PRIu64 " cuts: %s\n",
+           t->cuts - t->queue_wrong_cuts, t->cuts, verdict(t->queue_wrong_cuts == 0));
     printf("  a delivered job came back at %" PRIu64 " cuts: %s\n\n", t->returned_cuts, verdict(t->returned_cuts == 0));
 
     t = count_day(second_day, &early, stops, slots_for(stops / 3), seed);
@@ -226,7 +264,7 @@ int main(int count, char **arguments)
         } else if (strcmp(name, "--jobs") == 0) {
             jobs = (uint32_t)number(value, 12, 600);
         } else if (strcmp(name, "--stops") == 0) {
-            stops = (uint32_t)number(value, 36, 1800);
+            stops = (uint32_t)number(value, 60, 1800); /* with fewer the broken rule may bring no job back */
         } else if (strcmp(name, "--cuts") == 0 && value != NULL && strcmp(value, "all") == 0) {
             all = true;
         } else if (strcmp(name, "--cuts") == 0 && value != NULL && strcmp(value, "one") == 0) {

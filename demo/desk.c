@@ -1,4 +1,5 @@
-/* The desk's day: jobs are opened, moved and closed, an advance goes on in between, and the memory writes lines back. */
+/* The desk's day: jobs are opened, moved and closed, parcels are handed over in order, an advance goes on in between, and
+   the memory writes lines back. */
 
 #include "desk.h"
 
@@ -143,6 +144,55 @@ static void close_job(struct desk *d, uint32_t key)
     note(d, CLOSED, key, NULL);
 }
 
+/* Two couriers will meet: the parcel of an open job is to change bags, after those that wait already. */
+static void append(struct desk *d, uint32_t key)
+{
+    uint64_t at = d->calls->read(STORE_OF(d), 0, key);
+    if (at >= BOARD_REFUSED)
+        stop("read", at);
+    uint32_t giver = d->working[at + COURIER];
+    const uint32_t value[VALUE_WORDS] = {key, giver, 1 + (giver + below(&d->random, 11)) % 12};
+    uint64_t order = d->calls->append(STORE_OF(d), 0, value, VALUE_WORDS);
+    if (order >= BOARD_REFUSED)
+        stop("append", order);
+    note(d, APPENDED, (uint32_t)order, value);
+}
+
+/* The couriers meet: the parcel that has waited longest changes bags. Where its job is still open the job has another
+   courier from now on, by the same operation. */
+static void take(struct desk *d)
+{
+    uint64_t at = d->calls->look(STORE_OF(d), 0);
+    if (at >= BOARD_REFUSED)
+        stop("look", at);
+    uint32_t order = d->working[at - 1], hand_over[VALUE_WORDS], value[VALUE_WORDS];
+    memcpy(hand_over, d->working + at, sizeof hand_over);
+    uint32_t refusal = d->calls->take(STORE_OF(d), 0);
+    if (refusal != 0)
+        stop("take", refusal);
+    note(d, TAKEN, order, hand_over);
+    at = d->calls->read(STORE_OF(d), 0, hand_over[PARCEL]);
+    if (at >= BOARD_REFUSED)
+        return;
+    memcpy(value, d->working + at, sizeof value);
+    value[COURIER] = hand_over[RECEIVER];
+    refusal = d->calls->set(STORE_OF(d), 0, hand_over[PARCEL], value, VALUE_WORDS);
+    if (refusal != 0)
+        stop("set", refusal);
+    note(d, MOVED, hand_over[PARCEL], value);
+}
+
+/* Couriers agree to meet in one minute of three, and do meet in one of three; a few hand-overs always wait. */
+static void hand_over(struct desk *d, uint32_t key)
+{
+    static struct queue queue;
+    replay_queue(d, UINT32_MAX, &queue);
+    if (below(&d->random, 3) == 0 && queue.count < MOST_WAITING)
+        append(d, key);
+    if (below(&d->random, 3) == 0 && queue.count > LEAST_WAITING)
+        take(d);
+}
+
 static void begin(struct desk *d)
 {
     uint32_t refusal = d->calls->begin(STORE_OF(d), 0);
@@ -169,12 +219,28 @@ void replay(const struct desk *d, uint32_t epoch, struct job *jobs)
 {
     memset(jobs, 0, MOST_JOBS * sizeof *jobs);
     for (const struct change *change = d->log; change < d->log + d->changes; change++) {
-        if (change->epoch > epoch)
+        if (change->epoch > epoch || change->kind > CLOSED)
             continue;
         struct job *job = &jobs[change->key - FIRST_KEY];
         job->open = change->kind != CLOSED;
         if (job->open)
             memcpy(job->value, change->value, sizeof job->value);
+    }
+}
+
+void replay_queue(const struct desk *d, uint32_t epoch, struct queue *queue)
+{
+    queue->count = 0;
+    for (const struct change *change = d->log; change < d->log + d->changes; change++) {
+        if (change->epoch > epoch || change->kind < APPENDED)
+            continue;
+        if (change->kind == APPENDED) {
+            struct hand_over *last = &queue->waiting[queue->count++];
+            last->order = change->key;
+            memcpy(last->value, change->value, sizeof last->value);
+        } else if (queue->count > 0) {
+            memmove(queue->waiting, queue->waiting + 1, --queue->count * sizeof *queue->waiting);
+        }
     }
 }
 
@@ -208,6 +274,7 @@ void first_day(struct desk *d, uint32_t jobs)
         } else {
             move_job(d, some_job(d, false));
         }
+        hand_over(d, some_job(d, false));
         end(d);
     }
     advance(d, -1);
@@ -230,18 +297,28 @@ void second_day(struct desk *d, uint32_t stops)
             open_job(d);
         if (below(&d->random, 2) == 0)
             move_job(d, some_job(d, false));
+        hand_over(d, some_job(d, false));
         end(d);
     }
     advance(d, -1);
 }
 
-uint32_t slots_for(uint32_t open) { return open + 64; }
+uint32_t slots_for(uint32_t open) { return open + 96; }
 
 const struct change *last_change(const struct desk *d, uint32_t key)
 {
     const struct change *change = d->log + d->changes;
     while (change > d->log)
-        if ((--change)->key == key)
+        if ((--change)->key == key && change->kind <= CLOSED)
+            return change;
+    return NULL;
+}
+
+const struct change *last_hand_over(const struct desk *d, uint32_t order)
+{
+    const struct change *change = d->log + d->changes;
+    while (change > d->log)
+        if ((--change)->key == order && change->kind >= APPENDED)
             return change;
     return NULL;
 }

@@ -1,4 +1,4 @@
-/* The dispatch desk: a board, a log of every change made to it, and two days of work. */
+/* The dispatch desk: a board, the queue of hand-overs on it, a log of every change made to them, and two days of work. */
 #ifndef DESK_H
 #define DESK_H
 
@@ -7,14 +7,16 @@
 #include <stdbool.h>
 
 enum { WORDS = 4, VALUE_WORDS = WORDS - 1, THREADS = 2, FIRST_KEY = 1001, MOST_JOBS = 8192, CLOCK = 2 };
-enum { COURIER, ADDRESS, DUE }; /* the words of a value */
+enum { COURIER, ADDRESS, DUE };   /* the words of a job's value */
+enum { PARCEL, GIVER, RECEIVER }; /* and of a hand-over's */
+enum { LEAST_WAITING = 3, MOST_WAITING = 12 };
 
 /* The library, and the rules by hand in C with one of them broken (early.c). */
 extern const struct calls library, early;
 
-/* One change, as the desk's log has it. */
+/* One change, as the desk's log has it. The key of a hand-over is its order number. */
 struct change {
-    enum { OPENED, MOVED, CLOSED } kind;
+    enum { OPENED, MOVED, CLOSED, APPENDED, TAKEN } kind;
     uint32_t key, value[VALUE_WORDS], epoch;
     int minute;
 };
@@ -23,6 +25,17 @@ struct change {
 struct job {
     bool open;
     uint32_t value[VALUE_WORDS];
+};
+
+/* A parcel that is to change bags, and all that wait, the first of them first. Where a rule is broken more can wait than
+   ever did at one time. */
+struct hand_over {
+    uint32_t order, value[VALUE_WORDS];
+};
+
+struct queue {
+    uint32_t count;
+    struct hand_over waiting[2 * MOST_WAITING];
 };
 
 struct desk {
@@ -66,7 +79,11 @@ uint32_t slots_for(uint32_t open);
 /* The jobs as the log up to an epoch has them. */
 void replay(const struct desk *d, uint32_t epoch, struct job *jobs);
 
-/* The last change of a job in the log, or NULL. */
+/* The hand-overs that wait as the log up to an epoch has them: an append joins at the back, a take takes the front. */
+void replay_queue(const struct desk *d, uint32_t epoch, struct queue *queue);
+
+/* The last change of a job, and of a hand-over, in the log, or NULL. */
 const struct change *last_change(const struct desk *d, uint32_t key);
+const struct change *last_hand_over(const struct desk *d, uint32_t order);
 
 #endif

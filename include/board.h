@@ -1,4 +1,5 @@
-/* The epoch-kept board: a crash-safe store of courier jobs in memory that you lend it.
+/* The epoch-kept board: a crash-safe store of courier jobs, with a queue of hand-overs beside them, in
+ * memory that you lend it.
  *
  * THE STORE is three blocks of 32-bit words that you own:
  *
@@ -9,18 +10,20 @@
  * An image of N slots (2 to 1,024) with W words of contents each (2 to 9) has 3 + 4N + WN words:
  * N, W, the clock, then N headers (kind, epoch, uid, board), then N contents (key, W - 1 value
  * words). The smallest has 15 words, the largest 13,315, which are 53,260 bytes. A header that is
- * free is four zeros. The notes of T threads (1 to 16) have 5 + T + 3N words and begin with N; T is
+ * free is four zeros. The notes of T threads (1 to 16) have 6 + T + 3N words and begin with N; T is
  * what their length leaves. board_image_words and board_transient_words work the lengths out.
  *
- * The board word says what a slot holds: 1 is a job. Other boards will come to stand beside the
- * jobs, with keys of their own; today 1 is the only one. You never pass it: new writes it, set and
- * delete carry it on, the calls on jobs look at no slot of another board, and an image with another
- * in a filled header is refused by recover and by the questions (BOARD_BAD_SLOT).
+ * The board word says what a slot holds: 1 is a job, 2 an entry of the queue. Each board has keys of
+ * its own. You never pass it: new and append write it, set, delete and take carry it on, the calls on
+ * jobs look at no slot of the queue, those on the queue at none of a job, and an image with another in
+ * a filled header is refused by recover and by the questions (BOARD_BAD_SLOT). The slots are shared:
+ * a queue that has filled the board leaves no room for a job, and the other way round.
  *
  * An older layout had headers of three words, without the board. Every call refuses an image of it
  * (BOARD_SIZES), as it is N words shorter than its N and W ask for. There is no conversion: empty
  * the board with the old library, and make it anew with board_format. The length is all that tells
- * the two apart, so hand over the one that the image has: do not lengthen an old file first.
+ * the two apart, so hand over the one that the image has: do not lengthen an old file first. An image
+ * with headers of four words from before the queue is as one of today whose queue is empty.
  *
  * The three belong together: a call refuses images that differ in N or W, and notes of another N
  * (BOARD_SIZES). It cannot tell the notes of another store with the same N from the right ones.
@@ -31,6 +34,18 @@
  * to the epoch in which it began. board_advance and board_sync move the clock. A power cut at clock c
  * keeps every operation of an epoch up to c - 2, whole, and nothing of any later one; so an
  * operation is safe once the clock has ticked twice since it began.
+ *
+ * THE QUEUE is first in, first out: board_append puts a value of W - 1 words at the back, board_look
+ * shows the front and board_take takes it away. Append and take are changes within an operation, as
+ * those of jobs are, and the same cuts keep or lose them. Append answers the entry's order number,
+ * which is its key: 1 first, and one more with each append. The front is the entry with the smallest.
+ * After a power cut each entry that is left has the number that its append was given, and numbers go
+ * on one above the largest left, from 1 if none is. So until a cut no number is given twice; after
+ * it, that of an entry which is gone, taken or lost, can be.
+ *
+ * What a cut leaves is a queue too: each take that it keeps took the first of the entries that the
+ * kept operations before it had left. For that, a queue call within an operation is refused once an
+ * operation of a later epoch has appended or taken (BOARD_NEWER): end, begin again, and repeat it.
  *
  * WHO MAY CALL WHEN. Calls on one store are made one after another: with several threads of the
  * machine, hold a lock of your own around each call. "Thread" below is a number from 0 to T - 1 that
@@ -50,7 +65,8 @@
  *
  * Which line a call stored: an advance that goes on, one slot's contents or header; one that ticks,
  * the clock, word 2; a recover that goes on, one slot's header. A host that does not look flushes the
- * image. Begin, end, new, set, delete and read store nothing there, and are followed by no flush.
+ * image. Begin, end and the calls on jobs and on the queue store nothing there, and are followed by no
+ * flush.
  *
  * AFTER A POWER CUT working and transient are lost and may hold anything. Map persistent again,
  * allocate the other two with the same sizes, and call board_recover until it answers BOARD_DONE.
@@ -70,30 +86,35 @@
 extern "C" {
 #endif
 
-/* Why a call declines. A call that declines for several reasons gives the lowest number. Any call on
- * a store but format can give BOARD_SIZES and BOARD_CLOCK; the others are named at the calls. */
+/* Why a call declines. A call that declines for several reasons gives the lowest number, with
+ * BOARD_EMPTY in the place of BOARD_NO_JOB. Any call on a store but format can give BOARD_SIZES and
+ * BOARD_CLOCK; the others are named at the calls. */
 enum board_refusal {
     BOARD_SIZES = 1,         /* N, W or T out of range, a length that does not fit them, images or notes
-                                of different sizes, or notes with a slot or next uid out of range */
+                                of different sizes, or notes with a slot, a next uid or a next order
+                                number out of range */
     BOARD_CLOCK = 2,         /* the clock is not between 2 and 4,000,000,000, the images' clocks differ,
                                 or an operation is open in neither the clock's epoch nor the one before */
-    BOARD_BAD_SLOT = 3,      /* a header neither free nor proper, such as one of another board than 1, or
-                                a surviving job with key 0 */
-    BOARD_DUPLICATE = 4,     /* two kept slots of one uid and epoch, or two surviving jobs of one key */
+    BOARD_BAD_SLOT = 3,      /* a header neither free nor proper, such as one of another board than 1 and
+                                2, a surviving job or queue entry with key 0, or a surviving queue entry
+                                with key above 4,000,000,000 */
+    BOARD_DUPLICATE = 4,     /* two kept slots of one uid and epoch, or two surviving jobs or two surviving
+                                queue entries of one key */
     BOARD_NO_THREAD = 5,     /* the thread number is not below T */
     BOARD_ALREADY_OPEN = 6,  /* the thread has an operation open */
     BOARD_NOT_OPEN = 7,      /* the thread has no operation open */
     BOARD_BAD_ARGUMENT = 8,  /* key 0, or a value that is not W - 1 words long */
-    BOARD_NEWER = 9,         /* an operation of a later epoch has changed this key: end, begin again, and
-                                repeat the call in the new operation */
+    BOARD_NEWER = 9,         /* an operation of a later epoch has changed this job or, for a queue call,
+                                the queue: end, begin again, and repeat the call in the new operation */
     BOARD_NO_JOB = 10,       /* no live job of that key */
     BOARD_JOB_EXISTS = 11,   /* a live job of that key */
-    BOARD_NO_UID = 12,       /* no uid is left to give */
+    BOARD_NO_UID = 12,       /* no uid or order number is left to give */
     BOARD_FULL = 13,         /* too few free slots */
     BOARD_STILL_OPEN = 14,   /* an operation must end first: for an advance that begins one open in the
                                 epoch before the clock's, for a sync any */
     BOARD_LAST_EPOCH = 15,   /* the clock cannot go up by one (advance) or by two (sync) */
-    BOARD_NO_LINE = 16       /* the slot is not below N, or the line is neither 0 nor 1 */
+    BOARD_NO_LINE = 16,      /* the slot is not below N, or the line is neither 0 nor 1 */
+    BOARD_EMPTY = 17         /* the queue is empty */
 };
 
 /* A 64-bit answer of BOARD_REFUSED or more is a refusal: BOARD_REFUSED plus its number. */
@@ -107,19 +128,20 @@ static inline const char *board_refusal_text(uint64_t answer)
     case BOARD_SIZES: return "the sizes are out of range, or images, notes and lengths do not agree";
     case BOARD_CLOCK: return "the clock is out of range, or clocks and open operations do not agree";
     case BOARD_BAD_SLOT: return "a slot of the image is damaged";
-    case BOARD_DUPLICATE: return "a job stands twice in the image";
+    case BOARD_DUPLICATE: return "a job or a queue entry stands twice in the image";
     case BOARD_NO_THREAD: return "there is no thread of that number";
     case BOARD_ALREADY_OPEN: return "the thread has an operation open";
     case BOARD_NOT_OPEN: return "the thread has no operation open";
     case BOARD_BAD_ARGUMENT: return "the key is 0 or the value has the wrong length";
-    case BOARD_NEWER: return "a later epoch has changed this job";
+    case BOARD_NEWER: return "a later epoch has changed this job, or the queue";
     case BOARD_NO_JOB: return "there is no job of that key";
     case BOARD_JOB_EXISTS: return "there is a job of that key already";
-    case BOARD_NO_UID: return "no uid is left for a new job";
+    case BOARD_NO_UID: return "no uid or order number is left";
     case BOARD_FULL: return "the board is full";
     case BOARD_STILL_OPEN: return "an operation is still open";
     case BOARD_LAST_EPOCH: return "the clock has reached its end";
     case BOARD_NO_LINE: return "there is no such line";
+    case BOARD_EMPTY: return "the queue is empty";
     default: return "no refusal has this number";
     }
 }
@@ -127,13 +149,13 @@ static inline const char *board_refusal_text(uint64_t answer)
 /* ---- Making a store ---- */
 
 /* The words to allocate for an image of N slots of W words of contents, 3 + 4N + WN, and for the notes
- * of T threads, 5 + T + 3N; 0 where a size is out of range. */
+ * of T threads, 6 + T + 3N; 0 where a size is out of range. */
 size_t board_image_words(uint32_t slots, uint32_t words);
 size_t board_transient_words(uint32_t slots, uint32_t threads);
 
-/* Makes a fresh store of these sizes, whatever the memory holds: clock 2, no job. It answers 0, or
- * BOARD_SIZES and changes nothing. Flush the persistent image before you use the store; a power cut
- * while it is made is not covered. */
+/* Makes a fresh store of these sizes, whatever the memory holds: clock 2, no job, an empty queue. It
+ * answers 0, or BOARD_SIZES and changes nothing. Flush the persistent image before you use the store;
+ * a power cut while it is made is not covered. */
 uint32_t board_format(uint32_t *working, size_t working_words,
                       uint32_t *persistent, size_t persistent_words,
                       uint32_t *transient, size_t transient_words,
@@ -198,6 +220,49 @@ uint32_t board_read_refusal(const uint32_t *working, size_t working_words,
                             const uint32_t *persistent, size_t persistent_words,
                             const uint32_t *transient, size_t transient_words,
                             uint32_t thread, uint32_t key);
+
+/* ---- The queue ---- */
+
+/* Puts a value at the back. It needs two free slots, so that a full board can still be emptied.
+ * value_words is W - 1. It answers the entry's order number, from 1 to 4,000,000,000, or BOARD_REFUSED
+ * plus the refusal, which uses up no number.
+ * Refusals: BOARD_NO_THREAD, BOARD_NOT_OPEN, BOARD_BAD_ARGUMENT (the value's length), BOARD_NEWER,
+ * BOARD_NO_UID, BOARD_FULL. */
+uint64_t board_append(uint32_t *working, size_t working_words,
+                      const uint32_t *persistent, size_t persistent_words,
+                      uint32_t *transient, size_t transient_words,
+                      uint32_t thread, const uint32_t *value, size_t value_words);
+
+/* Takes the front away. For an entry appended in an earlier epoch it needs one free slot. It answers 0
+ * or the refusal, and not what it took: that is what board_look shows the same thread just before.
+ *
+ *     uint64_t at = board_look(w, wn, p, pn, t, tn, thread);
+ *     if (at < BOARD_REFUSED) {
+ *         memcpy(parcel, w + at, (words - 1) * sizeof *w);
+ *         if (board_take(w, wn, p, pn, t, tn, thread) == 0)
+ *             use(parcel);
+ *     }
+ *
+ * Refusals: BOARD_NO_THREAD, BOARD_NOT_OPEN, BOARD_NEWER, BOARD_EMPTY, BOARD_FULL. */
+uint32_t board_take(uint32_t *working, size_t working_words,
+                    const uint32_t *persistent, size_t persistent_words,
+                    uint32_t *transient, size_t transient_words,
+                    uint32_t thread);
+
+/* Where in working the value of the front starts, W - 1 words long, or BOARD_REFUSED plus the refusal.
+ * The word before it is the entry's order number. Like board_read it needs no open operation and
+ * changes nothing, and the words stay as they are until the next call that changes the store.
+ * Refusals: BOARD_NO_THREAD, BOARD_NEWER (only with an operation open), BOARD_EMPTY. */
+uint64_t board_look(const uint32_t *working, size_t working_words,
+                    const uint32_t *persistent, size_t persistent_words,
+                    const uint32_t *transient, size_t transient_words,
+                    uint32_t thread);
+
+/* The refusal of board_look with the same arguments, 0 for none. */
+uint32_t board_look_refusal(const uint32_t *working, size_t working_words,
+                            const uint32_t *persistent, size_t persistent_words,
+                            const uint32_t *transient, size_t transient_words,
+                            uint32_t thread);
 
 /* ---- Moving the clock ---- */
 
@@ -268,7 +333,8 @@ uint64_t board_recover(uint32_t *working, size_t working_words,
  * image need not be aligned. Refusals as for board_recover, judged on the image alone. */
 uint64_t board_clock(const uint8_t *image, size_t bytes);
 
-/* How many jobs recovery of this image would give. Otherwise as board_clock. */
+/* How many jobs recovery of this image would give; queue entries are not counted. Otherwise as
+ * board_clock. */
 uint64_t board_survivors(const uint8_t *image, size_t bytes);
 
 #ifdef __cplusplus

@@ -10,14 +10,16 @@ enum { JOBS = 1 }; /* the board of jobs */
 
 _Static_assert(BOARD_NO_THREAD == 5 && BOARD_ALREADY_OPEN == 6 && BOARD_NOT_OPEN == 7 && BOARD_BAD_ARGUMENT == 8 &&
                    BOARD_NEWER == 9 && BOARD_NO_JOB == 10 && BOARD_JOB_EXISTS == 11 && BOARD_NO_UID == 12 &&
-                   BOARD_FULL == 13 && BOARD_STILL_OPEN == 14 && BOARD_LAST_EPOCH == 15 && BOARD_NO_LINE == 16,
+                   BOARD_FULL == 13 && BOARD_STILL_OPEN == 14 && BOARD_LAST_EPOCH == 15 && BOARD_NO_LINE == 16 &&
+                   BOARD_EMPTY == 17,
                "the header's refusals");
 _Static_assert(BOARD_STORED == 0 && BOARD_TICKED == 1, "the header's replies");
 
 /* Every refusal has a text of its own, whichever way it is answered. */
 static void texts(void)
 {
-    for (uint32_t one = 0; one <= BOARD_NO_LINE; one++) {
+    same("the text of no refusal", (uint64_t)strcmp(board_refusal_text(BOARD_EMPTY + 1), board_refusal_text(99)), 0);
+    for (uint32_t one = 0; one <= BOARD_EMPTY; one++) {
         const char *text = board_refusal_text(one);
         same("an empty text", text[0] == 0, 0);
         for (uint32_t other = 0; other < one; other++)
@@ -79,7 +81,7 @@ int main(void)
     boards();
     const size_t n = board_image_words(SLOTS, WORDS), tn = board_transient_words(SLOTS, THREADS);
     same("the length of an image", n, PREFIX + HEADER_WORDS * SLOTS + WORDS * SLOTS);
-    same("the length of the notes", tn, 5 + THREADS + 3 * SLOTS);
+    same("the length of the notes", tn, 6 + THREADS + 3 * SLOTS);
     uint32_t *w = block(n), *p = block(n), *t = block(tn);
     const uint32_t first[VALUE_WORDS] = {11, 12, 13}, second[VALUE_WORDS] = {21, 0, 23};
 

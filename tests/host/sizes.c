@@ -1,6 +1,6 @@
 /* Stores of other sizes, through the header. Notes of other sizes that are just as long, with 3 slots and 4 threads as
-   with 4 slots and 1 thread: every call but format and recover declines and changes nothing. Images of the old layout,
-   three words a header: every call does.
+   with 4 slots and 1 thread, and notes with a next uid or order number out of range: every call but format and recover
+   declines and changes nothing. Images of the old layout, three words a header: every call does.
    Usage: sizes */
 
 #include "board.h"
@@ -9,6 +9,7 @@
 #include <stdbool.h>
 
 enum { WORDS = 3, VALUE_WORDS = WORDS - 1, KEY = 7, PREFIX = 3, OLD_HEADER_WORDS = 3 };
+enum { NEXT_UID = 2, NEXT_ORDER = 3 }; /* places in the notes */
 
 struct store {
     uint32_t slots, threads;
@@ -76,6 +77,10 @@ static void each_declines(struct store *s, const struct store *before)
     DECLINES(board_delete(STORE(s), 0, KEY), BOARD_SIZES);
     DECLINES(board_read(STORE(s), 0, KEY), wide);
     DECLINES(board_read_refusal(STORE(s), 0, KEY), BOARD_SIZES);
+    DECLINES(board_append(STORE(s), 0, value, VALUE_WORDS), wide);
+    DECLINES(board_take(STORE(s), 0), BOARD_SIZES);
+    DECLINES(board_look(STORE(s), 0), wide);
+    DECLINES(board_look_refusal(STORE(s), 0), BOARD_SIZES);
     DECLINES(board_advance(STORE(s)), wide);
     DECLINES(board_sync(STORE(s)), wide);
     DECLINES(board_write_back(STORE(s), 0, 0), BOARD_SIZES);
@@ -110,6 +115,23 @@ static void with_notes_of(uint32_t slots, uint32_t threads, uint32_t other_slots
     same("begin after that", board_begin(STORE(&s), 0), 0);
     free_store(&s);
     free_store(&other);
+    free_store(&before);
+}
+
+/* A note that is 1 in a fresh store, the next uid or the next order number, put out of its range at either end. */
+static void with_note_out_of_range(size_t note)
+{
+    const uint32_t outside[] = {0, 4000000002, UINT32_MAX};
+    struct store s = new_store(4, 2), before = new_store(4, 2);
+    first_job(&s);
+    for (size_t i = 0; i < sizeof outside / sizeof *outside; i++) {
+        s.transient[note] = outside[i];
+        copy_store(&before, &s);
+        each_declines(&s, &before);
+    }
+    s.transient[note] = 4000000001;
+    same("end with the last number used up", board_end(STORE(&s), 0), 0);
+    free_store(&s);
     free_store(&before);
 }
 
@@ -151,6 +173,8 @@ int main(void)
     of_the_old_layout(2);
     of_the_old_layout(5);
     of_the_old_layout(1024);
+    with_note_out_of_range(NEXT_UID);
+    with_note_out_of_range(NEXT_ORDER);
     for (int used = 0; used < 2; used++) {
         with_notes_of(3, 4, 4, 1, used);
         with_notes_of(4, 1, 3, 4, used);

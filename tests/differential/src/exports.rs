@@ -48,6 +48,20 @@ extern "C" {
         thread: u32,
         key: u32,
     ) -> u32;
+    pub fn board_append(
+        w: Words,
+        wl: usize,
+        p: Words,
+        pl: usize,
+        t: Words,
+        tl: usize,
+        thread: u32,
+        value: *const u32,
+        length: usize,
+    ) -> u64;
+    pub fn board_take(w: Words, wl: usize, p: Words, pl: usize, t: Words, tl: usize, thread: u32) -> u32;
+    pub fn board_look(w: Words, wl: usize, p: Words, pl: usize, t: Words, tl: usize, thread: u32) -> u64;
+    pub fn board_look_refusal(w: Words, wl: usize, p: Words, pl: usize, t: Words, tl: usize, thread: u32) -> u32;
     pub fn board_advance(w: Words, wl: usize, p: Words, pl: usize, t: Words, tl: usize) -> u64;
     pub fn board_sync(w: Words, wl: usize, p: Words, pl: usize, t: Words, tl: usize) -> u64;
     pub fn board_write_back(w: Words, wl: usize, p: Words, pl: usize, t: Words, tl: usize, slot: u32, line: u32)

@@ -63,8 +63,8 @@ pub fn recover(slices: Slices, _: &Call) -> u64 {
     unsafe { board_recover(w, wl, p, pl, t, tl) }
 }
 
-/// Format and the calls of threads.
-pub fn change(slices: Slices, call: &Call) -> u64 {
+/// Format, begin, end and the calls on jobs.
+fn change(slices: Slices, call: &Call) -> u64 {
     let Slices { w, wl, p, pl, t, tl } = slices;
     // SAFETY: as in `recover`, and the value is readable for its whole length.
     let reply = unsafe {
@@ -81,10 +81,27 @@ pub fn change(slices: Slices, call: &Call) -> u64 {
             Call::Delete { thread, key } => board_delete(w, wl, p, pl, t, tl, thread, key),
             Call::ReadRefusal { thread, key } => board_read_refusal(w, wl, p, pl, t, tl, thread, key),
             Call::Read { thread, key } => return board_read(w, wl, p, pl, t, tl, thread, key),
-            Call::Recover | Call::Advance | Call::Sync | Call::WriteBack { .. } => panic!("{call:?} is no change"),
+            _ => return queue(slices, call),
         }
     };
     u64::from(reply)
+}
+
+/// The calls on the queue.
+fn queue(slices: Slices, call: &Call) -> u64 {
+    let Slices { w, wl, p, pl, t, tl } = slices;
+    // SAFETY: as in `change`.
+    unsafe {
+        match *call {
+            Call::Append { thread, ref value } => {
+                board_append(w, wl, p, pl, t, tl, thread, value.as_ptr(), value.len())
+            }
+            Call::Take { thread } => u64::from(board_take(w, wl, p, pl, t, tl, thread)),
+            Call::Look { thread } => board_look(w, wl, p, pl, t, tl, thread),
+            Call::LookRefusal { thread } => u64::from(board_look_refusal(w, wl, p, pl, t, tl, thread)),
+            _ => panic!("{call:?} is no call of a thread"),
+        }
+    }
 }
 
 /// Every call.

@@ -1,4 +1,5 @@
-//! What the board word decides: where an answer differs from the one that marks on the board of jobs would get.
+//! What the board word decides for job calls: where an answer differs from the one that marks on the board of jobs would
+//! get.
 
 use crate::calls::{refusal_of, simulate, Call};
 use crate::image::{Header, Sizes, JOBS};

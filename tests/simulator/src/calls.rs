@@ -5,7 +5,7 @@ use crate::image::Sizes;
 use crate::recovery::Progress;
 use crate::store::{Refusal, Store};
 use crate::transient::Layout;
-use crate::{changes, epochs, recovery};
+use crate::{changes, epochs, queue, recovery};
 
 #[derive(Clone, PartialEq, Eq, Debug)]
 pub enum Call {
@@ -18,6 +18,10 @@ pub enum Call {
     Delete { thread: u32, key: u32 },
     Read { thread: u32, key: u32 },
     ReadRefusal { thread: u32, key: u32 },
+    Append { thread: u32, value: Vec<u32> },
+    Take { thread: u32 },
+    Look { thread: u32 },
+    LookRefusal { thread: u32 },
     Advance,
     Sync,
     WriteBack { slot: u32, line: u32 },
@@ -45,15 +49,26 @@ pub fn simulate(store: &mut Store, call: &Call) -> u64 {
         Call::Delete { thread, key } => plain(changes::delete(store, *thread, *key)),
         Call::Read { thread, key } => wide(changes::read(store, *thread, *key).map(|place| place as u64)),
         Call::ReadRefusal { thread, key } => plain(changes::read(store, *thread, *key).map(|_| ())),
+        Call::Append { thread, value } => wide(queue::append(store, *thread, value).map(u64::from)),
+        Call::Take { thread } => plain(queue::take(store, *thread)),
+        Call::Look { thread } => wide(queue::look(store, *thread).map(|place| place as u64)),
+        Call::LookRefusal { thread } => plain(queue::look(store, *thread).map(|_| ())),
         Call::Advance => wide(epochs::advance(store).map(step_number)),
         Call::Sync => wide(epochs::sync(store)),
         Call::WriteBack { slot, line } => plain(epochs::write_back(store, *slot, *line)),
     }
 }
 
+/// The refusals of the table, 1 to this one. 02, No. 3: "17 for take and look on an empty queue"
+pub const LAST_REFUSAL: usize = 17;
+
+/// How often each refusal came up, by its number.
+pub type Refusals = [u64; LAST_REFUSAL + 1];
+
 /// The refusal that a reply stands for, 0 for none.
 pub fn refusal_of(call: &Call, reply: u64) -> Refusal {
-    let is_wide = matches!(call, Call::Recover | Call::Read { .. } | Call::Advance | Call::Sync);
+    let gives_a_place = matches!(call, Call::Read { .. } | Call::Append { .. } | Call::Look { .. });
+    let is_wide = gives_a_place || matches!(call, Call::Recover | Call::Advance | Call::Sync);
     let refusal = if is_wide { reply.saturating_sub(REFUSED) } else { reply };
     u32::try_from(refusal).unwrap_or(Refusal::MAX)
 }

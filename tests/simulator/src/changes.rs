@@ -5,6 +5,7 @@ use crate::store::{Entry, Refusal, Store};
 use crate::transient::{Layout, LAST_TAKEN, NEXT_UID};
 
 /// "A fresh store has clock 2, every other word after word 1 zero, next uid 1"
+/// 02, No. 3: the first order number is 1.
 pub fn format(store: &mut Store, slots: u32, words: u32) -> Result<(), Refusal> {
     let sizes = Sizes::new(slots, words).ok_or(1u32)?;
     let layout = Layout::of(store.transient.len(), sizes.slots).ok_or(1u32)?;
@@ -16,7 +17,7 @@ pub fn format(store: &mut Store, slots: u32, words: u32) -> Result<(), Refusal> 
     image[0] = slots;
     image[1] = words;
     image[CLOCK] = FIRST_CLOCK;
-    *store = Store { working: image.clone(), persistent: image, transient: layout.blank(1) };
+    *store = Store { working: image.clone(), persistent: image, transient: layout.blank(1, 1) };
     Ok(())
 }
 
@@ -56,7 +57,7 @@ pub fn new(store: &mut Store, thread: u32, key: u32, value: &[u32]) -> Result<()
     }
     let slot = free_slot(store, &entry, 2)?;
     store.transient[NEXT_UID] = uid + 1;
-    take(store, &entry, slot, Header { kind: ALLOC, epoch, uid, board: JOBS }, key, value);
+    fill(store, &entry, slot, Header { kind: ALLOC, epoch, uid, board: JOBS }, key, value);
     Ok(())
 }
 
@@ -75,7 +76,7 @@ pub fn set(store: &mut Store, thread: u32, key: u32, value: &[u32]) -> Result<()
         return Ok(());
     }
     let slot = free_slot(store, &entry, 2)?;
-    take(store, &entry, slot, Header { kind: UPDATE, epoch, ..header }, key, value);
+    fill(store, &entry, slot, Header { kind: UPDATE, epoch, ..header }, key, value);
     store.transient[entry.layout.retired(old)] = epoch;
     Ok(())
 }
@@ -85,6 +86,11 @@ pub fn delete(store: &mut Store, thread: u32, key: u32) -> Result<(), Refusal> {
     judge_key(&entry, key, None)?;
     judge_newer(store, &entry, epoch, job(key))?;
     let old = live_slot(store, &entry, job(key)).ok_or(10u32)?;
+    remove(store, &entry, epoch, old)
+}
+
+/// The rules of delete, for the live payload of a slot.
+pub fn remove(store: &mut Store, entry: &Entry, epoch: u32, old: usize) -> Result<(), Refusal> {
     let header = entry.header(store, old);
     let anti = Header { kind: DELETE, epoch, ..header };
     if header.epoch == epoch {
@@ -97,8 +103,9 @@ pub fn delete(store: &mut Store, thread: u32, key: u32) -> Result<(), Refusal> {
     }
     // "For an older payload a free slot takes a DELETE (label e, same uid and key, value words 0),
     // and the payload is retired in e."
-    let slot = free_slot(store, &entry, 1)?;
-    take(store, &entry, slot, anti, key, &vec![0; entry.sizes.value_words()]);
+    let slot = free_slot(store, entry, 1)?;
+    let key = entry.sizes.key(&store.working, old);
+    fill(store, entry, slot, anti, key, &vec![0; entry.sizes.value_words()]);
     store.transient[entry.layout.retired(old)] = epoch;
     Ok(())
 }
@@ -117,7 +124,7 @@ pub fn read(store: &Store, thread: u32, key: u32) -> Result<usize, Refusal> {
 }
 
 /// Refusal 5.
-fn existing_thread(entry: &Entry, thread: u32) -> Result<usize, Refusal> {
+pub fn existing_thread(entry: &Entry, thread: u32) -> Result<usize, Refusal> {
     let thread = thread as usize;
     if thread < entry.layout.threads {
         Ok(thread)
@@ -127,7 +134,7 @@ fn existing_thread(entry: &Entry, thread: u32) -> Result<usize, Refusal> {
 }
 
 /// Refusals 1, 2, 5 and 7, and the caller's open epoch.
-fn open_operation(store: &Store, thread: u32) -> Result<(Entry, u32), Refusal> {
+pub fn open_operation(store: &Store, thread: u32) -> Result<(Entry, u32), Refusal> {
     let entry = store.enter()?;
     let thread = existing_thread(&entry, thread)?;
     match entry.open(store, thread) {
@@ -167,7 +174,7 @@ fn live_slot(store: &Store, entry: &Entry, name: Name) -> Option<usize> {
 
 /// "The free slot taken is the first met going up from the slot after the last one taken, round past the end".
 /// Refusal 13 when fewer than `needed` are free.
-fn free_slot(store: &Store, entry: &Entry, needed: usize) -> Result<usize, Refusal> {
+pub fn free_slot(store: &Store, entry: &Entry, needed: usize) -> Result<usize, Refusal> {
     let is_free = |slot: &usize| !entry.header(store, *slot).is_filled();
     if entry.slots().filter(is_free).count() < needed {
         return Err(13);
@@ -176,7 +183,8 @@ fn free_slot(store: &Store, entry: &Entry, needed: usize) -> Result<usize, Refus
     (after_last..entry.sizes.slots).chain(0..after_last).find(is_free).ok_or(13)
 }
 
-fn take(store: &mut Store, entry: &Entry, slot: usize, header: Header, key: u32, value: &[u32]) {
+/// A free slot is taken.
+pub fn fill(store: &mut Store, entry: &Entry, slot: usize, header: Header, key: u32, value: &[u32]) {
     entry.sizes.set_header(&mut store.working, slot, header);
     entry.sizes.set_contents(&mut store.working, slot, key, value);
     store.transient[entry.layout.retired(slot)] = 0;

@@ -3,7 +3,7 @@
 use crate::calls::{refusal_of, Call, DONE, WENT_ON};
 use crate::image::CLOCK;
 use crate::random::Random;
-use crate::recovery::surviving_jobs;
+use crate::recovery::surviving_entries;
 use crate::reference::Reference;
 use crate::store::Store;
 
@@ -26,9 +26,9 @@ pub fn check_crash(
         return Err(format!("at clock {clock} an operation that ended before a sync is absent"));
     }
     let (recovered, went_on) = recover_fully(store, random, engine)?;
-    let wanted = reference.jobs_after_crash(clock);
+    let wanted = reference.entries_after_crash(clock).map_err(|what| format!("at clock {clock} {what}"))?;
     for image in [&recovered.working, &recovered.persistent] {
-        let found = surviving_jobs(image);
+        let found = surviving_entries(image);
         if found.as_ref() != Ok(&wanted) {
             return Err(format!("the crash at clock {clock} leaves {found:?}, wanted {wanted:?}"));
         }

@@ -1,6 +1,6 @@
 //! Images and stores that were not left by a run: some that are in order, and many that are not.
 
-use crate::image::{Header, Sizes, CLOCK, FIRST_CLOCK, JOBS, LARGEST};
+use crate::image::{Header, Sizes, CLOCK, FIRST_CLOCK, JOBS, LARGEST, QUEUE};
 use crate::random::Random;
 use crate::store::Store;
 use crate::transient::{Layout, LAST_TAKEN, NOTED_SLOTS, PHASE, PLACE_SLOT};
@@ -26,24 +26,33 @@ pub fn bare_image(random: &mut Random, sizes: Sizes, clock: u32) -> Vec<u32> {
     image
 }
 
-/// An image that recovery accepts: each uid has a key of its own and its versions different labels.
-/// At most `most_filled` slots are filled.
+/// An image that recovery accepts: each uid has a board, a key of its own there, and versions of different labels. Uids
+/// count up or down, and so do order numbers. At most `most_filled` slots are filled.
 pub fn acceptable_image(random: &mut Random, sizes: Sizes, clock: u32, most_filled: usize) -> Vec<u32> {
     let mut image = bare_image(random, sizes, clock);
-    let has_high_uids = random.chance(20);
+    let (has_high_uids, has_high_orders) = (random.chance(20), random.chance(35));
+    let last_order = LARGEST - random.between(0, 3);
+    let (mut jobs, mut entries) = (0, 0);
     let mut free: Vec<usize> = (0..sizes.slots).collect();
     let filled = random.below(most_filled + 1);
     let mut left = filled;
-    for job in 0..filled as u32 {
-        let uid = if has_high_uids { LARGEST - job } else { 1 + job };
+    for number in 0..filled as u32 {
+        let uid = if has_high_uids { LARGEST - number } else { 1 + number };
+        let (board, key) = if random.chance(67) {
+            jobs += 1;
+            (JOBS, jobs)
+        } else {
+            entries += 1;
+            (QUEUE, if has_high_orders { last_order + 1 - entries } else { entries })
+        };
         let mut epochs: Vec<u32> = recent_epochs(clock).collect();
         for _ in 0..random.between(1, 4).min(left as u32).min(epochs.len() as u32) {
             let slot = free.swap_remove(random.below(free.len()));
             let epoch = epochs.swap_remove(random.below(epochs.len()));
-            let header = Header { kind: random.between(1, 3), epoch, uid, board: JOBS };
+            let header = Header { kind: random.between(1, 3), epoch, uid, board };
             let value = random.junk(sizes.value_words());
             sizes.set_header(&mut image, slot, header);
-            sizes.set_contents(&mut image, slot, job + 1, &value);
+            sizes.set_contents(&mut image, slot, key, &value);
             left -= 1;
         }
     }
@@ -55,47 +64,65 @@ fn recent_epochs(clock: u32) -> std::ops::RangeInclusive<u32> {
     clock.saturating_sub(6).max(FIRST_CLOCK)..=clock
 }
 
-/// Properly filled marks with few uids and few keys, so that equal ones are common; in one image of five on any boards.
+/// Properly filled marks with few uids and few keys, so that equal ones are common. One image of five has any boards, the
+/// others one or both; one of six has keys around the last order number.
 pub fn crowded_image(random: &mut Random, sizes: Sizes, clock: u32) -> Vec<u32> {
     let mut image = bare_image(random, sizes, clock);
-    let most = 2 * sizes.slots as u32;
-    let has_boards = random.chance(20);
+    let (most, most_keys) = (2 * sizes.slots as u32, random.pick(&[1, 2]) * sizes.slots as u32);
+    let has_any_boards = random.chance(20);
+    let boards = random.pick(&[[JOBS, JOBS], [JOBS, QUEUE], [QUEUE, QUEUE]]);
     let least_key = if random.chance(20) { 0 } else { 1 };
+    let has_high_keys = random.chance(17);
     for slot in 0..sizes.slots {
         if random.chance(25) {
             continue;
         }
         let epochs = recent_epochs(clock);
         let epoch = random.between(*epochs.start(), *epochs.end());
-        let board = if has_boards { any_board(random) } else { JOBS };
+        let board = if has_any_boards { any_board(random) } else { random.pick(&boards) };
         let header = Header { kind: random.between(1, 3), epoch, uid: random.between(1, most), board };
         let value = random.junk(sizes.value_words());
-        let key = random.between(least_key, most);
+        let low_key = random.between(least_key, most_keys);
+        let key = if has_high_keys && random.chance(50) { last_order(random) } else { low_key };
         sizes.set_header(&mut image, slot, header);
         sizes.set_contents(&mut image, slot, key, &value);
     }
     image
 }
 
-/// The board of jobs, none, that of a later request, or any word.
+/// A key near the last order number, on either side of it.
+fn last_order(random: &mut Random) -> u32 {
+    random.pick(&[LARGEST - 1, LARGEST, LARGEST, LARGEST + 1, LARGEST + 1, LARGEST + 2])
+}
+
+/// The board of jobs, the queue, or neither.
 fn any_board(random: &mut Random) -> u32 {
-    if random.chance(50) {
-        JOBS
-    } else {
-        other_board(random)
-    }
-}
-
-fn other_board(random: &mut Random) -> u32 {
     match random.below(8) {
-        0 | 1 => 0,
-        2..=4 => 2,
-        5 => u32::MAX,
-        _ => random.word().max(JOBS + 1),
+        0..=3 => JOBS,
+        4 | 5 => QUEUE,
+        _ => no_board(random),
     }
 }
 
-/// Puts a few slots on other boards, kept payloads more often than others, and gives most of them the key of one.
+fn no_board(random: &mut Random) -> u32 {
+    match random.below(5) {
+        0 | 1 => 0,
+        2 => QUEUE + 1,
+        3 => u32::MAX,
+        _ => random.word().max(QUEUE + 1),
+    }
+}
+
+/// The queue, or no board at all.
+fn other_board(random: &mut Random) -> u32 {
+    if random.chance(40) {
+        QUEUE
+    } else {
+        no_board(random)
+    }
+}
+
+/// Puts a few slots on other boards than that of jobs, kept payloads more often than others, and gives most of them the key of one.
 pub fn damage_boards(random: &mut Random, sizes: Sizes, image: &mut [u32]) {
     let is_kept_payload = |header: Header| header.is_payload() && header.is_kept(image[CLOCK]);
     let kept: Vec<usize> = (0..sizes.slots).filter(|&slot| is_kept_payload(sizes.header(image, slot))).collect();
@@ -106,6 +133,16 @@ pub fn damage_boards(random: &mut Random, sizes: Sizes, image: &mut [u32]) {
         if !kept.is_empty() && random.chance(75) {
             image[sizes.contents_line(slot).start] = sizes.key(image, random.pick(&kept));
         }
+    }
+}
+
+/// Gives a kept entry of the queue, if there is one, an order number at an end of their range or past it.
+fn damage_order(random: &mut Random, sizes: Sizes, image: &mut [u32]) {
+    let is_kept_entry = |header: Header| header.is_payload() && header.board == QUEUE && header.is_kept(image[CLOCK]);
+    let entries: Vec<usize> = (0..sizes.slots).filter(|&slot| is_kept_entry(sizes.header(image, slot))).collect();
+    if !entries.is_empty() {
+        let order = if random.chance(75) { last_order(random) } else { random.pick(&[0, u32::MAX]) };
+        image[sizes.contents_line(random.pick(&entries)).start] = order;
     }
 }
 
@@ -127,7 +164,7 @@ pub fn damage_word(random: &mut Random, words: &mut [u32]) {
     if words.is_empty() {
         return;
     }
-    let reach = if random.chance(25) { words.len().min(5) } else { words.len() };
+    let reach = if random.chance(25) { words.len().min(6) } else { words.len() };
     let place = random.below(reach);
     words[place] = edge_word(random, words[place]);
 }
@@ -155,6 +192,8 @@ pub fn any_image(random: &mut Random, sizes: Sizes) -> Vec<u32> {
         damage_word(random, &mut image);
     } else if random.chance(15) {
         damage_boards(random, sizes, &mut image);
+    } else if random.chance(25) {
+        damage_order(random, sizes, &mut image);
     }
     image
 }
@@ -209,7 +248,7 @@ pub fn notes_of_other_sizes(store: &Store) -> Vec<Vec<u32>> {
     let Some(sizes) = Sizes::of(&store.working) else { return Vec::new() };
     let length = store.transient.len();
     let others = (2..=1024).filter(|&slots| slots != sizes.slots);
-    others.filter_map(|slots| Some(Layout::of(length, slots)?.blank(1))).collect()
+    others.filter_map(|slots| Some(Layout::of(length, slots)?.blank(1, 1))).collect()
 }
 
 /// A store that passes the check at entry and is otherwise arbitrary: headers of any kind, images that have
@@ -218,7 +257,8 @@ pub fn wild_store(random: &mut Random, slots: u32) -> Store {
     let sizes = Sizes::new(slots, random.between(2, 4)).expect("these sizes are in range");
     let layout = Layout::new(sizes.slots, random.below(3) + 1).expect("these sizes are in range");
     let clock = any_clock(random);
-    let mut transient = layout.blank(random.pick(&[1, 7, LARGEST, LARGEST + 1]));
+    let [next_uid, next_order] = [(); 2].map(|()| random.pick(&[1, 7, 7, LARGEST, LARGEST, LARGEST + 1]));
+    let mut transient = layout.blank(next_uid, next_order);
     transient[LAST_TAKEN] = random.between(0, slots - 1);
     transient[PLACE_SLOT] = random.between(0, slots - 1);
     transient[PHASE] = random.pick(&[0, 0, 1, 1, 2, 3, 4, 5, u32::MAX]);
@@ -233,14 +273,22 @@ pub fn wild_store(random: &mut Random, slots: u32) -> Store {
     Store { working: wild_image(random, sizes, clock), persistent: wild_image(random, sizes, clock), transient }
 }
 
+/// Half of these images are calm: no label is above an epoch that can be open, so that queue calls get past 9. Where
+/// there are few keys, several slots have one.
 fn wild_image(random: &mut Random, sizes: Sizes, clock: u32) -> Vec<u32> {
     let mut image = bare_image(random, sizes, clock);
+    let calm = random.pick(&[None, None, Some(clock), Some(clock - 1)]);
+    let (most, keys) = (random.pick(&[JOBS, QUEUE]), random.pick(&[1, 4]));
     for slot in 0..sizes.slots {
         let kind = random.pick(&[0, 0, 1, 1, 2, 2, 3, 4, u32::MAX]);
-        let board = any_board(random);
-        let header = Header { kind, epoch: wild_epoch(random, clock), uid: edge_word(random, 1), board };
+        let board = if random.chance(50) { most } else { any_board(random) };
+        let epoch = match calm {
+            Some(latest) => latest.saturating_sub(random.pick(&[0, 0, 1, 2])),
+            None => wild_epoch(random, clock),
+        };
+        let header = Header { kind, epoch, uid: edge_word(random, 1), board };
         let value = random.junk(sizes.value_words());
-        let key = random.between(0, 4);
+        let key = if random.chance(90) { random.between(0, keys) } else { last_order(random) };
         sizes.set_header(&mut image, slot, header);
         sizes.set_contents(&mut image, slot, key, &value);
     }

@@ -3,6 +3,7 @@
 use crate::calls::{image_words, refusal_of, simulate, transient_words, Call, WENT_ON};
 use crate::damage::{acceptable_image, any_clock, edge_word};
 use crate::image::{Sizes, JOBS};
+use crate::queue::front;
 use crate::random::Random;
 use crate::store::{Entry, Store};
 use crate::trace::{Event, Line, Trace};
@@ -127,7 +128,7 @@ pub fn any_call(random: &mut Random, store: &Store, mix: Mix) -> Call {
     if random.chance(mix.advances) {
         epoch_call(random, store)
     } else {
-        job_call(random, store, mix.keys)
+        thread_call(random, store, mix.keys)
     }
 }
 
@@ -159,8 +160,8 @@ fn line_written_back(random: &mut Random, store: &Store) -> Call {
     Call::WriteBack { slot: random.below(slots as usize) as u32, line: random.between(0, 1) }
 }
 
-/// Begin, end, new, set, delete or read.
-pub fn job_call(random: &mut Random, store: &Store, keys: u32) -> Call {
+/// Begin, end, a call on jobs or one on the queue.
+pub fn thread_call(random: &mut Random, store: &Store, keys: u32) -> Call {
     let entry = store.enter().ok();
     let threads = entry.map_or(2, |entry| entry.layout.threads);
     let thread = random.below(threads) as u32;
@@ -170,26 +171,45 @@ pub fn job_call(random: &mut Random, store: &Store, keys: u32) -> Call {
     match (is_open, roll) {
         (true, 0..=17) | (false, 0..=4) => Call::End { thread },
         (true, 18..=20) | (false, 5..=79) => Call::Begin { thread },
-        _ => key_call(random, store, entry, thread, keys),
+        _ if random.chance(50) => queue_call(random, store, entry, thread),
+        _ => job_call(random, store, entry, thread, keys),
     }
 }
 
-fn key_call(random: &mut Random, store: &Store, entry: Option<Entry>, thread: u32, keys: u32) -> Call {
-    let roll = random.below(100);
-    let key = any_key(random, store, entry, keys, roll >= 35);
+/// Append, take or look; where the queue is empty most often append.
+fn queue_call(random: &mut Random, store: &Store, entry: Option<Entry>, thread: u32) -> Call {
+    let is_empty = entry.is_some_and(|entry| front(store, &entry).is_none());
+    match random.below(100) {
+        0..=39 => Call::Append { thread, value: any_value(random, entry) },
+        _ if is_empty && random.chance(75) => Call::Append { thread, value: any_value(random, entry) },
+        40..=84 => Call::Take { thread },
+        85..=94 => Call::Look { thread },
+        _ => Call::LookRefusal { thread },
+    }
+}
+
+/// A value, most often of the right length.
+fn any_value(random: &mut Random, entry: Option<Entry>) -> Vec<u32> {
     let value_words = entry.map_or(1, |entry| entry.sizes.value_words());
     let length = if random.chance(97) { value_words } else { random.below(10) };
+    random.junk(length)
+}
+
+/// New, set, delete or read.
+fn job_call(random: &mut Random, store: &Store, entry: Option<Entry>, thread: u32, keys: u32) -> Call {
+    let roll = random.below(100);
+    let key = any_key(random, store, entry, keys, roll >= 35);
     match roll {
-        0..=34 => Call::New { thread, key, value: random.junk(length) },
-        35..=62 => Call::Set { thread, key, value: random.junk(length) },
+        0..=34 => Call::New { thread, key, value: any_value(random, entry) },
+        35..=62 => Call::Set { thread, key, value: any_value(random, entry) },
         63..=88 => Call::Delete { thread, key },
         89..=95 => Call::Read { thread, key },
         _ => Call::ReadRefusal { thread, key },
     }
 }
 
-/// A key of the board, most often that of a live job where one is wanted; or that of a slot which damage has put on
-/// another board, so that it looks like a job and is none.
+/// A key of the board, most often that of a live job where one is wanted; or that of a live slot on another board, a
+/// queue entry or what damage has put there, which looks like a job and is none.
 fn any_key(random: &mut Random, store: &Store, entry: Option<Entry>, keys: u32, wants_held: bool) -> u32 {
     if random.chance(2) {
         return edge_word(random, keys);
@@ -197,7 +217,7 @@ fn any_key(random: &mut Random, store: &Store, entry: Option<Entry>, keys: u32, 
     let Some(entry) = entry else { return random.between(1, keys) };
     let live = entry.slots().filter(|&slot| entry.is_live(store, slot));
     let (held, strays): (Vec<usize>, Vec<usize>) = live.partition(|&slot| entry.header(store, slot).board == JOBS);
-    if !strays.is_empty() && random.chance(50) {
+    if !strays.is_empty() && random.chance(30) {
         entry.sizes.key(&store.working, random.pick(&strays))
     } else if !wants_held || random.chance(20) {
         random.between(1, keys)

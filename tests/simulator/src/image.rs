@@ -9,12 +9,15 @@ pub const DELETE: u32 = 3;
 /// The board of jobs. 02, No. 2: "the board, 1 for jobs"
 pub const JOBS: u32 = 1;
 
+/// The board of hand-overs. 02, No. 3: "We need a queue as board 2"
+pub const QUEUE: u32 = 2;
+
 /// The clock's place in an image, the number of words before the headers, and that of a header.
 pub const CLOCK: usize = 2;
 pub const PREFIX: usize = 3;
 pub const HEADER_WORDS: usize = 4;
 
-/// The upper end of the clock and of the uids; the clock's lower end.
+/// The upper end of the clock, of the uids and of the order numbers; the clock's lower end.
 pub const LARGEST: u32 = 4_000_000_000;
 pub const FIRST_CLOCK: u32 = 2;
 
@@ -129,12 +132,12 @@ impl Header {
     }
 
     /// "A filled mark has a label from 2 to the clock and a uid from 1 to 4,000,000,000."
-    /// 02, No. 2: "condition 3 also covers a board other than 1"
+    /// 02, No. 3: "condition 3 admits boards 1 and 2"
     pub fn is_proper(self, clock: u32) -> bool {
         let properly_filled = self.is_filled()
             && (FIRST_CLOCK..=clock).contains(&self.epoch)
             && (1..=LARGEST).contains(&self.uid)
-            && self.board == JOBS;
+            && (self.board == JOBS || self.board == QUEUE);
         self == Header::FREE || properly_filled
     }
 

@@ -1,7 +1,7 @@
 //! The image that a program is given, what the lister prints of it, and the server's two questions.
 
 use crate::calls::refused;
-use crate::image::LARGEST_IMAGE;
+use crate::image::{JOBS, LARGEST_IMAGE, QUEUE};
 use crate::recovery::{judge, Accepted};
 use crate::store::Refusal;
 use std::fmt::Write;
@@ -28,6 +28,7 @@ pub fn accepted_image(bytes: &[u8]) -> Result<(Vec<u32>, Accepted), Refusal> {
 
 /// "It prints `clock C survivors K`, then for each survivor in slot order the slot, key and value words, one
 /// space between; on a refusal only `refused` and the number".
+/// 02, No. 3: "The lister shows both boards, a queue entry's line ending in one space and `queue`"
 pub fn listing(bytes: &[u8]) -> String {
     let (image, Accepted { sizes, clock, survivors }) = match accepted_image(bytes) {
         Ok(accepted) => accepted,
@@ -39,7 +40,7 @@ pub fn listing(bytes: &[u8]) -> String {
         for word in &image[sizes.contents_line(slot)] {
             write!(text, " {word}").expect("a string takes any text");
         }
-        text.push('\n');
+        text.push_str(if sizes.header(&image, slot).board == QUEUE { " queue\n" } else { "\n" });
     }
     text
 }
@@ -51,9 +52,13 @@ pub fn clock_answer(bytes: &[u8]) -> u64 {
     }
 }
 
+/// 02, No. 3: "the server counts jobs alone"
 pub fn survivors_answer(bytes: &[u8]) -> u64 {
-    match words_of(bytes).and_then(|image| judge(&image)) {
-        Ok(accepted) => accepted.survivors.len() as u64,
+    match accepted_image(bytes) {
+        Ok((image, Accepted { sizes, survivors, .. })) => {
+            let is_job = |slot: &&usize| sizes.header(&image, **slot).board == JOBS;
+            survivors.iter().filter(is_job).count() as u64
+        }
         Err(refusal) => refused(refusal),
     }
 }

@@ -1,6 +1,6 @@
 //! Recovery, and what it takes an image to mean.
 
-use crate::image::{clock_in_range, Header, Name, Sizes, CLOCK, DELETE};
+use crate::image::{clock_in_range, Header, Name, Sizes, CLOCK, DELETE, LARGEST, QUEUE};
 use crate::store::{Refusal, Store};
 use crate::transient::Layout;
 use std::collections::BTreeMap;
@@ -11,8 +11,8 @@ pub enum Progress {
     Done,
 }
 
-/// Values by name. 02, No. 2: "The guarantee after a cut is read per board"
-pub type Jobs = BTreeMap<Name, Vec<u32>>;
+/// Values by name, jobs and queue entries. 02, No. 2: "The guarantee after a cut is read per board"
+pub type Entries = BTreeMap<Name, Vec<u32>>;
 
 /// An image that recovery accepts.
 pub struct Accepted {
@@ -34,7 +34,7 @@ pub fn judge(image: &[u32]) -> Result<Accepted, Refusal> {
     }
     let survivors: Vec<usize> = (0..sizes.slots).filter(|&slot| survives(&headers, clock, slot)).collect();
     let names: Vec<Name> = survivors.iter().map(|&slot| sizes.name(image, slot)).collect();
-    if names.iter().any(|&(_, key)| key == 0) {
+    if names.iter().any(|&name| !is_proper(name)) {
         return Err(3);
     }
     let kept = headers.iter().filter(|header| header.is_kept(clock));
@@ -43,6 +43,12 @@ pub fn judge(image: &[u32]) -> Result<Accepted, Refusal> {
         return Err(4);
     }
     Ok(Accepted { sizes, clock, survivors })
+}
+
+/// "a survivor with key 0" is refused. 02, No. 3: "condition 3 [..] covers a board 2 survivor with key above
+/// 4,000,000,000"
+fn is_proper((board, key): Name) -> bool {
+    key != 0 && (board != QUEUE || key <= LARGEST)
 }
 
 /// "Of kept slots with one uid the largest label wins; a winner of kind 1 or 2 survives."
@@ -71,7 +77,8 @@ pub fn recover(store: &mut Store) -> Result<Progress, Refusal> {
         return Ok(Progress::WentOn);
     }
     store.working = store.persistent.clone();
-    store.transient = layout.blank(next_uid(&store.persistent, &accepted));
+    let next_order = next_order(&surviving_entries(&store.persistent)?);
+    store.transient = layout.blank(next_uid(&store.persistent, &accepted), next_order);
     Ok(Progress::Done)
 }
 
@@ -93,9 +100,15 @@ fn next_uid(image: &[u32], accepted: &Accepted) -> u32 {
     uids.max().unwrap_or(0) + 1
 }
 
-/// The surviving jobs of an image: "the same keys, each once, the same value words".
-pub fn surviving_jobs(image: &[u32]) -> Result<Jobs, Refusal> {
+/// 02, No. 3: "After recovery it continues one above the largest surviving order number, from 1 if none."
+pub fn next_order(entries: &Entries) -> u32 {
+    let orders = entries.keys().filter(|(board, _)| *board == QUEUE).map(|&(_, order)| order);
+    orders.max().unwrap_or(0) + 1
+}
+
+/// The survivors of an image: "the same keys, each once, the same value words".
+pub fn surviving_entries(image: &[u32]) -> Result<Entries, Refusal> {
     let accepted = judge(image)?;
-    let job = |&slot: &usize| (accepted.sizes.name(image, slot), accepted.sizes.value(image, slot));
-    Ok(accepted.survivors.iter().map(job).collect())
+    let entry = |&slot: &usize| (accepted.sizes.name(image, slot), accepted.sizes.value(image, slot));
+    Ok(accepted.survivors.iter().map(entry).collect())
 }

@@ -1,6 +1,6 @@
 //! The stored images: named byte strings for the lister and the server's questions.
 
-use crate::image::{Header, Sizes, ALLOC, CLOCK, DELETE, JOBS, LARGEST, UPDATE};
+use crate::image::{Header, Sizes, ALLOC, CLOCK, DELETE, JOBS, LARGEST, QUEUE, UPDATE};
 use crate::lister::bytes_of;
 
 /// The paper's example, "For words 2 2 7, 1 5 1, 2 6 1, 10 100, 10 200"; 02, No. 2: "01's worked marks gain a last 1"
@@ -40,6 +40,11 @@ pub fn on_board(mut image: Vec<u32>, slot: usize, board: u32) -> Vec<u32> {
     image
 }
 
+/// The image with these slots on the queue.
+pub fn queued(image: Vec<u32>, slots: &[usize]) -> Vec<u32> {
+    slots.iter().fold(image, |image, &slot| on_board(image, slot, QUEUE))
+}
+
 /// 1,024 jobs of 8 value words; the last word is the largest there is.
 pub fn full_largest() -> Vec<u32> {
     let jobs: Vec<Filled> = (1..=1024).map(|job| (ALLOC, 2 + job % 40, job, LARGEST + job)).collect();
@@ -48,10 +53,23 @@ pub fn full_largest() -> Vec<u32> {
     image
 }
 
+/// 1,024 queue entries with the largest words there are: the lister's longest text.
+pub fn full_queue() -> Vec<u32> {
+    let entries: Vec<Filled> = (0..1024).map(|entry| (ALLOC, 2, 1 + entry, LARGEST - entry)).collect();
+    let mut image = queued(image_with(1024, 9, LARGEST, &entries), &(0..1024).collect::<Vec<usize>>());
+    let sizes = Sizes::of(&image).expect("the largest image fits its sizes");
+    for slot in 0..sizes.slots {
+        image[sizes.value_part(slot)].fill(u32::MAX);
+    }
+    image
+}
+
 /// Every stored image with its name.
 pub fn stored_images() -> Vec<(String, Vec<u8>)> {
     let mut all = Vec::new();
-    for (name, image) in accepted().into_iter().chain(refused_2()).chain(refused_3()).chain(refused_4()) {
+    for (name, image) in
+        accepted().into_iter().chain(accepted_queues()).chain(refused_2()).chain(refused_3()).chain(refused_4())
+    {
         all.push((name.to_string(), bytes_of(&image)));
     }
     all.extend(refused_1().into_iter().map(|(name, bytes)| (name.to_string(), bytes)));
@@ -74,6 +92,25 @@ fn accepted() -> Vec<(&'static str, Vec<u32>)> {
         ("equal-labels-not-kept", image_with(3, 2, 9, &[(ALLOC, 8, 1, 3), (UPDATE, 8, 1, 3), (ALLOC, 2, 2, 3)])),
         ("full-largest", full_largest()),
         ("empty-largest", image_with(1024, 9, 2, &[])),
+    ]
+}
+
+fn accepted_queues() -> Vec<(&'static str, Vec<u32>)> {
+    let of_two = |first: Filled, second: Filled| image_with(3, 3, 9, &[first, second]);
+    let deleted = [(ALLOC, 3, 2, 6), (DELETE, 5, 2, 6)];
+    let mixed = [(ALLOC, 2, 4, 12), (ALLOC, 4, 7, 9), deleted[0], deleted[1], (ALLOC, 3, 5, 8), (ALLOC, 8, 8, 10)];
+    let past_the_end =
+        [(ALLOC, 5, 1, LARGEST + 1), (UPDATE, 6, 1, LARGEST), (DELETE, 7, 2, u32::MAX), (ALLOC, 8, 3, 0)];
+    vec![
+        ("queue-beside-a-job", queued(image_with(8, 4, 8, &mixed), &[1, 2, 3, 4, 5])),
+        ("queue-alone", queued(of_two((UPDATE, 5, 1, 2), (ALLOC, 7, 2, 1)), &[0, 1])),
+        ("queue-not-kept", queued(of_two((ALLOC, 5, 1, 3), (ALLOC, 9, 2, 7)), &[1])),
+        ("equal-keys-on-two-boards", queued(of_two((ALLOC, 5, 1, 3), (UPDATE, 6, 2, 3)), &[1])),
+        ("equal-uids-on-two-boards", queued(of_two((ALLOC, 5, 1, 3), (UPDATE, 6, 1, 3)), &[1])),
+        ("equal-uids-on-two-boards-deleted", queued(of_two((ALLOC, 5, 1, 3), (DELETE, 6, 1, 3)), &[1])),
+        ("last-order-number", queued(of_two((ALLOC, 5, 1, 3), (ALLOC, 5, 2, LARGEST)), &[1])),
+        ("order-numbers-past-their-end-not-surviving", queued(image_with(4, 2, 9, &past_the_end), &[0, 1, 2, 3])),
+        ("full-queue", full_queue()),
     ]
 }
 
@@ -133,22 +170,34 @@ fn refused_3() -> Vec<(&'static str, Vec<u32>)> {
         ("uid-0", mark((ALLOC, 5, 0, 7))),
         ("uid-past-its-end", mark((DELETE, 5, LARGEST + 1, 7))),
         ("board-0", on_board(mark((ALLOC, 5, 2, 7)), 2, 0)),
-        ("board-2", on_board(mark((UPDATE, 5, 2, 7)), 2, 2)),
+        ("board-3", on_board(mark((UPDATE, 5, 2, 7)), 2, 3)),
         ("board-all-ones", on_board(mark((DELETE, 5, 2, 7)), 2, u32::MAX)),
         ("free-with-board", on_board(mark((0, 0, 0, 7)), 2, JOBS)),
-        ("board-2-and-nothing-else", on_board(of_two((ALLOC, 5, 1, 3), (ALLOC, 5, 2, 7)), 1, 2)),
-        ("board-2-not-kept", on_board(of_two((ALLOC, 5, 1, 3), (ALLOC, 9, 2, 7)), 1, 2)),
+        ("board-3-and-nothing-else", on_board(of_two((ALLOC, 5, 1, 3), (ALLOC, 5, 2, 7)), 1, 3)),
+        ("board-3-not-kept", on_board(of_two((ALLOC, 5, 1, 3), (ALLOC, 9, 2, 7)), 1, 3)),
         ("free-with-board-and-nothing-else", on_board(of_two((ALLOC, 5, 1, 3), (0, 0, 0, 7)), 1, JOBS)),
-        ("equal-keys-on-two-boards", on_board(of_two((ALLOC, 5, 1, 3), (UPDATE, 6, 2, 3)), 1, 2)),
-        ("equal-uids-on-two-boards", on_board(of_two((ALLOC, 5, 1, 3), (UPDATE, 6, 1, 3)), 1, 2)),
-        ("equal-uid-and-label-on-two-boards", on_board(of_two((ALLOC, 5, 1, 3), (UPDATE, 5, 1, 4)), 1, 2)),
+        ("free-with-the-queues-board", on_board(of_two((ALLOC, 5, 1, 3), (0, 0, 0, 7)), 1, QUEUE)),
+        ("equal-keys-on-no-board", on_board(of_two((ALLOC, 5, 1, 3), (UPDATE, 6, 2, 3)), 1, 3)),
+        ("equal-uids-on-no-board", on_board(of_two((ALLOC, 5, 1, 3), (UPDATE, 6, 1, 3)), 1, 3)),
+        ("equal-uid-and-label-on-no-board", on_board(of_two((ALLOC, 5, 1, 3), (UPDATE, 5, 1, 4)), 1, 3)),
         ("survivor-with-key-0", of_two((ALLOC, 5, 1, 3), (ALLOC, 7, 2, 0))),
         ("equal-survivors-with-key-0", of_two((ALLOC, 5, 1, 3), (UPDATE, 5, 1, 0))),
+        ("order-number-0", queued(of_two((ALLOC, 5, 1, 3), (ALLOC, 7, 2, 0)), &[1])),
+        ("order-number-past-its-end", queued(of_two((ALLOC, 5, 1, 3), (ALLOC, 7, 2, LARGEST + 1)), &[1])),
+        ("order-number-all-ones", queued(of_two((UPDATE, 7, 2, u32::MAX), (ALLOC, 5, 1, 3)), &[0])),
+        (
+            "equal-order-numbers-past-their-end",
+            queued(of_two((ALLOC, 5, 1, u32::MAX), (ALLOC, 5, 2, u32::MAX)), &[0, 1]),
+        ),
     ]
 }
 
 fn refused_4() -> Vec<(&'static str, Vec<u32>)> {
+    let equal_uid_and_label = image_with(3, 2, 9, &[(ALLOC, 5, 1, 3), (UPDATE, 5, 1, 4)]);
     vec![
+        ("equal-uid-and-label-on-two-boards", queued(equal_uid_and_label.clone(), &[1])),
+        ("equal-uid-and-label-on-the-queue", queued(equal_uid_and_label, &[0, 1])),
+        ("equal-order-numbers", queued(image_with(3, 2, 9, &[(ALLOC, 5, 1, 3), (UPDATE, 6, 2, 3)]), &[0, 1])),
         ("equal-uid-and-label", image_with(3, 2, 9, &[(ALLOC, 5, 1, 3), (UPDATE, 5, 1, 4)])),
         ("equal-uid-and-label-of-deletes", image_with(3, 2, 9, &[(DELETE, 5, 1, 3), (DELETE, 5, 1, 4)])),
         ("equal-and-beaten", image_with(3, 2, 9, &[(ALLOC, 5, 1, 3), (UPDATE, 5, 1, 3), (UPDATE, 7, 1, 3)])),

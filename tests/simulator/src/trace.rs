@@ -1,8 +1,9 @@
 //! A run of calls with a crash after each lasting store, also within a sync, held against the reference map.
 
-use crate::calls::{refusal_of, simulate, Call, TICKED};
+use crate::calls::{refusal_of, simulate, Call, Refusals, TICKED};
 use crate::crash::{check_crash, Engine};
 use crate::image::job;
+use crate::queue_cases::QueueCases;
 use crate::random::Random;
 use crate::reference::Reference;
 use crate::store::Store;
@@ -14,7 +15,8 @@ pub struct Counts {
     pub calls: u64,
     pub crashes: u64,
     pub went_on: u64,
-    pub refusals: [u64; 17],
+    pub refusals: Refusals,
+    pub queue_cases: QueueCases,
     pub within_syncs: WithinSyncs,
 }
 
@@ -120,6 +122,7 @@ impl Replay<'_, '_> {
         let reply = (self.engine)(&mut self.store, call)?;
         let refusal = refusal_of(call, reply);
         self.counts.calls += 1;
+        self.counts.queue_cases.note(&before, call, reply);
         if refusal != 0 {
             let seen = self.counts.refusals.get_mut(refusal as usize);
             *seen.ok_or(format!("unknown refusal {refusal}"))? += 1;
@@ -128,11 +131,11 @@ impl Replay<'_, '_> {
         match event {
             Event::Call(Call::Sync) => self.synced(before, reply, &[]),
             Event::Sync(lines) => self.synced(before, reply, lines),
-            Event::Call(call) => self.accepted(call, reply),
+            Event::Call(call) => self.accepted(&before, call, reply),
         }
     }
 
-    fn accepted(&mut self, call: &Call, reply: u64) -> Result<(), String> {
+    fn accepted(&mut self, before: &Store, call: &Call, reply: u64) -> Result<(), String> {
         match call {
             Call::Begin { thread } => self.reference.began(*thread),
             Call::End { thread } => self.reference.ended(*thread),
@@ -140,10 +143,22 @@ impl Replay<'_, '_> {
                 self.reference.changed(*thread, job(*key), Some(value))
             }
             Call::Delete { thread, key } => self.reference.changed(*thread, job(*key), None),
+            Call::Append { thread, value } => return self.reference.appended(*thread, reply, value),
+            Call::Take { thread } => return self.took(before, *thread),
             Call::Advance => return self.advanced(reply),
             Call::WriteBack { .. } => return self.crash(),
-            Call::Sync | Call::Read { .. } | Call::ReadRefusal { .. } | Call::Format { .. } | Call::Recover => {}
+            Call::Read { .. } | Call::ReadRefusal { .. } | Call::Look { .. } | Call::LookRefusal { .. } => {}
+            Call::Sync | Call::Format { .. } | Call::Recover => {}
         }
+        Ok(())
+    }
+
+    /// The entry that was taken is the one that look shows just before.
+    fn took(&mut self, before: &Store, thread: u32) -> Result<(), String> {
+        let mut before = before.clone();
+        let value_at = (self.engine)(&mut before, &Call::Look { thread })?;
+        let order = (value_at as usize).checked_sub(1).and_then(|key_at| before.working.get(key_at));
+        self.reference.took(thread, *order.ok_or(format!("a take is accepted where look replies {value_at}"))?);
         Ok(())
     }
 

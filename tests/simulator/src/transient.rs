@@ -1,14 +1,16 @@
-//! The layout of the notes: 5 + T + 3N words. They say their N; T is what their length leaves.
+//! The layout of the notes: 6 + T + 3N words. They say their N; T is what their length leaves.
 
 use crate::image::LARGEST;
 
-/// N, "the last slot taken", "the next uid", and the place of an advance: phase and slot.
+/// N, "the last slot taken", "the next uid", the next order number (02, No. 3), and the place of an advance: phase and
+/// slot.
 pub const NOTED_SLOTS: usize = 0;
 pub const LAST_TAKEN: usize = 1;
 pub const NEXT_UID: usize = 2;
-pub const PHASE: usize = 3;
-pub const PLACE_SLOT: usize = 4;
-const PREFIX: usize = 5;
+pub const NEXT_ORDER: usize = 3;
+pub const PHASE: usize = 4;
+pub const PLACE_SLOT: usize = 5;
+const PREFIX: usize = 6;
 
 /// Where things stand in the notes of a board of so many slots and threads.
 #[derive(Clone, Copy, PartialEq, Eq, Debug)]
@@ -46,20 +48,23 @@ impl Layout {
     }
 
     /// "Nothing is open, retired, waiting or underway", and the search begins at slot 0.
-    pub fn blank(self, next_uid: u32) -> Vec<u32> {
+    pub fn blank(self, next_uid: u32, next_order: u32) -> Vec<u32> {
         let mut transient = vec![0; self.words()];
         transient[NOTED_SLOTS] = self.slots as u32;
         transient[LAST_TAKEN] = self.slots as u32 - 1;
         transient[NEXT_UID] = next_uid;
+        transient[NEXT_ORDER] = next_order;
         transient
     }
 
     /// "the images or notes differ in sizes; a note naming a slot not below N, or a next uid outside 1 to 4,000,000,001"
+    /// 02, No. 3: "1 and 12 judge the next order number as the next uid"
     pub fn fits(self, transient: &[u32]) -> bool {
         let names_slot = |word: u32| (word as usize) < self.slots;
         transient[NOTED_SLOTS] as usize == self.slots
             && names_slot(transient[LAST_TAKEN])
             && names_slot(transient[PLACE_SLOT])
             && (1..=LARGEST + 1).contains(&transient[NEXT_UID])
+            && (1..=LARGEST + 1).contains(&transient[NEXT_ORDER])
     }
 }

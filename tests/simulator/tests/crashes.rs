@@ -4,6 +4,7 @@ use simulator::boards::ToldApart;
 use simulator::calls::{refusal_of, simulate, Call};
 use simulator::damage::{damaged_store, wild_store};
 use simulator::generator::{any_call, start, trace, unformatted, Mix};
+use simulator::queue_cases::QueueCases;
 use simulator::random::Random;
 use simulator::trace::{replay, shrink, simulated, Counts, WithinSyncs};
 
@@ -18,10 +19,11 @@ fn every_crash_leaves_the_reference_map() {
             panic!("seed {seed}: {}", shrink(trace, &mut simulated));
         }
     }
-    let Counts { calls, crashes, went_on, refusals, within_syncs } = &counts;
+    let Counts { calls, crashes, went_on, refusals, queue_cases, within_syncs } = &counts;
     println!("seeds 0 to 2999, {calls} calls, {crashes} crashes, {went_on} went on, {within_syncs}");
-    println!("refusals {refusals:?}");
+    println!("refusals {refusals:?}, {queue_cases}");
     assert!(*crashes > 50_000 && *went_on > 25_000);
+    assert!(queue_cases.of_runs_are_at_least(100), "too few of some sort: {queue_cases}");
     let least = WithinSyncs { syncs: 2000, underway: 500, lines: 10_000, changing: 3000 };
     assert!(within_syncs.are_at_least(least), "too little written back within syncs: {within_syncs}");
     assert!(refusals[5..].iter().all(|&seen| seen >= 100), "{refusals:?}");
@@ -30,8 +32,8 @@ fn every_crash_leaves_the_reference_map() {
 #[test]
 fn every_call_is_total_and_a_refusal_changes_nothing() {
     let mut random = Random::new(7);
-    let mut told_apart = ToldApart::default();
-    for round in 0..20_000 {
+    let (mut told_apart, mut queue_cases) = (ToldApart::default(), QueueCases::default());
+    for round in 0..80_000 {
         let slots = random.between(2, 6);
         let mut store = match random.below(3) {
             0 => unformatted(&mut random, slots, 3, 2),
@@ -51,8 +53,10 @@ fn every_call_is_total_and_a_refusal_changes_nothing() {
             let reply = simulate(&mut store, &call);
             assert!(refusal_of(&call, reply) == 0 || store == before, "round {round}: {call:?} on {before:?}");
             told_apart.note(&before, &call, reply);
+            queue_cases.note(&before, &call, reply);
         }
     }
-    println!("seed 7, 200000 calls, {told_apart:?}");
+    println!("seed 7, 800000 calls, {told_apart:?}, {queue_cases}");
     assert!(told_apart.are_at_least(100), "too few slots that only their board tells from a job: {told_apart:?}");
+    assert!(queue_cases.are_at_least(100), "too few of some sort: {queue_cases}");
 }

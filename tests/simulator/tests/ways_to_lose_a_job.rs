@@ -5,15 +5,15 @@ mod common;
 use common::{delete, fresh, make, mark, new, tick, BEGIN, END};
 use simulator::calls::{simulate, Call, DONE, WENT_ON};
 use simulator::image::{ALLOC, DELETE, JOBS, UPDATE};
-use simulator::recovery::{judge, surviving_jobs, Jobs};
+use simulator::recovery::{judge, surviving_entries, Entries};
 use simulator::store::Store;
 use simulator::stored::image_with;
 
 /// What recovery leaves of the store as it is now.
-fn jobs_after_crash(store: &Store) -> Jobs {
+fn jobs_after_crash(store: &Store) -> Entries {
     let mut crashed = store.clone();
     while simulate(&mut crashed, &Call::Recover) == WENT_ON {}
-    surviving_jobs(&crashed.working).unwrap()
+    surviving_entries(&crashed.working).unwrap()
 }
 
 #[test]
@@ -69,7 +69,7 @@ fn a_label_one_below_the_clock_is_not_kept() {
 #[test]
 fn recovery_frees_a_kept_delete_after_its_payload() {
     let image = image_with(2, 2, 9, &[(DELETE, 6, 1, 3), (ALLOC, 5, 1, 3)]);
-    let mut store = Store { working: image.clone(), persistent: image, transient: vec![0; 12] };
+    let mut store = Store { working: image.clone(), persistent: image, transient: vec![0; 13] };
     assert_eq!(simulate(&mut store, &Call::Recover), WENT_ON);
     assert_eq!([0, 1].map(|slot| mark(&store.persistent, slot)), [[DELETE, 6, 1, JOBS], [0; 4]]);
     assert_eq!(simulate(&mut store, &Call::Recover), WENT_ON);

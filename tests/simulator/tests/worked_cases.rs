@@ -5,7 +5,7 @@ mod common;
 use common::{delete, fresh, make, mark, new, tick, BEGIN, END};
 use simulator::calls::{image_words, refusal_of, refused, simulate, transient_words, Call, DONE, WENT_ON};
 use simulator::headcount::{figures, head_count};
-use simulator::image::{Header, ALLOC, DELETE, HEADER_WORDS, JOBS, PREFIX, UPDATE};
+use simulator::image::{Header, ALLOC, DELETE, HEADER_WORDS, JOBS, PREFIX, QUEUE, UPDATE};
 use simulator::lister::{bytes_of, clock_answer, listing, survivors_answer};
 use simulator::recovery::judge;
 use simulator::store::Store;
@@ -21,7 +21,7 @@ fn a_slot_is_kept_from_label_plus_two_on() {
 fn lengths_are_exact() {
     assert_eq!([image_words(2, 2), image_words(1024, 9)], [15, 13_315]);
     assert_eq!([image_words(1, 2), image_words(1025, 2), image_words(2, 1), image_words(2, 10)], [0; 4]);
-    assert_eq!([transient_words(2, 1), transient_words(1024, 16)], [12, 3093]);
+    assert_eq!([transient_words(2, 1), transient_words(1024, 16)], [13, 3094]);
     assert_eq!([transient_words(2, 0), transient_words(2, 17), transient_words(1, 1)], [0; 3]);
 }
 
@@ -57,12 +57,12 @@ fn an_alloc_survives_until_its_delete_is_kept() {
 fn sizes_out_of_range_decline_with_1() {
     for (slots, words, threads) in [(1, 2, 1), (1025, 2, 1), (2, 1, 1), (2, 10, 1), (2, 2, 0), (2, 2, 17)] {
         let image = PREFIX + (HEADER_WORDS + words as usize) * slots as usize;
-        let notes = (5 + threads + 3 * slots) as usize;
+        let notes = (6 + threads + 3 * slots) as usize;
         let mut store = Store { working: vec![0; image], persistent: vec![0; image], transient: vec![0; notes] };
         for head in [&mut store.working, &mut store.persistent] {
             head[..3].copy_from_slice(&[slots, words, 2]);
         }
-        store.transient[..3].copy_from_slice(&[slots, slots - 1, 1]);
+        store.transient[..4].copy_from_slice(&[slots, slots - 1, 1, 1]);
         let before = store.clone();
         assert_eq!(simulate(&mut store, &Call::Format { slots, words }), 1);
         assert_eq!(simulate(&mut store, &Call::Recover), refused(1));
@@ -71,7 +71,7 @@ fn sizes_out_of_range_decline_with_1() {
     }
 }
 
-/// The notes of N 3, T 4 and of N 4, T 1 have 18 words both. They decline as format left them, and as a first job did.
+/// The notes of N 3, T 4 and of N 4, T 1 have 19 words both. They decline as format left them, and as a first job did.
 #[test]
 fn notes_of_other_sizes_decline_with_1() {
     for ((slots, threads), (other_slots, other_threads)) in [((3, 4), (4, 1)), ((4, 1), (3, 4))] {
@@ -87,7 +87,7 @@ fn notes_of_other_sizes_decline_with_1() {
 /// Every call but format and recover declines with 1 and changes nothing; these two make the notes the store's own.
 fn declines_the_notes(store: &Store, other: &Store) {
     let before = Store { transient: other.transient.clone(), ..store.clone() };
-    assert_eq!((store.transient.len(), before.transient.len()), (18, 18));
+    assert_eq!((store.transient.len(), before.transient.len()), (19, 19));
     declines_with_1(&before);
     let [mut formatted, mut recovered] = [before.clone(), before];
     make(&mut formatted, &[Call::Format { slots: store.working[0], words: 2 }, BEGIN]);
@@ -105,6 +105,10 @@ fn declines_with_1(before: &Store) {
         delete(0, 9),
         Call::Read { thread: 0, key: 9 },
         Call::ReadRefusal { thread: 0, key: 9 },
+        Call::Append { thread: 0, value: vec![5] },
+        Call::Take { thread: 0 },
+        Call::Look { thread: 0 },
+        Call::LookRefusal { thread: 0 },
         Call::Advance,
         Call::Sync,
         Call::WriteBack { slot: 0, line: 0 },
@@ -140,12 +144,12 @@ fn a_board_of_2_with_one_job_is_full_and_can_be_emptied() {
 #[test]
 fn recovery_sets_the_next_uid_and_begins_at_slot_0() {
     let image = image_with(3, 2, 9, &[(ALLOC, 5, 6, 3), (UPDATE, 8, 7, 4)]);
-    let mut store = Store { working: vec![1; image.len()], persistent: image, transient: vec![1; 15] };
+    let mut store = Store { working: vec![1; image.len()], persistent: image, transient: vec![1; 16] };
     assert_eq!(simulate(&mut store, &Call::Recover), WENT_ON);
-    assert_eq!((store.working[0], &store.transient[..]), (1, &[1; 15][..]));
+    assert_eq!((store.working[0], &store.transient[..]), (1, &[1; 16][..]));
     assert_eq!(simulate(&mut store, &Call::Recover), DONE);
     assert_eq!(store.working, store.persistent);
-    assert_eq!(store.transient, [&[3, 2, 7][..], &[0; 12]].concat());
+    assert_eq!(store.transient, [&[3, 2, 7, 1][..], &[0; 12]].concat());
 }
 
 #[test]
@@ -165,7 +169,7 @@ fn each_stored_image_is_refused_as_its_name_says() {
         .collect();
     let count = |line: &str| first_words.iter().filter(|(_, first)| first == line).count();
     let counts = ["refused 1", "refused 2", "refused 3", "refused 4"].map(count);
-    assert_eq!((counts, first_words.len()), ([19, 4, 20, 5], 59), "{first_words:#?}");
+    assert_eq!((counts, first_words.len()), ([19, 4, 25, 8], 76), "{first_words:#?}");
 }
 
 #[test]
@@ -191,12 +195,12 @@ fn a_figure_is_no_rest_of_the_others() {
     assert_eq!(figures(&[torn, too_high, board_alone, Header::FREE], 9, &[]), [1, 0, 0, 0]);
 }
 
-/// Moves a slot of working to another board, which only damage does.
+/// Moves a slot of working to another board, as only damage does.
 fn stray(store: &mut Store, slot: usize, board: u32) {
     store.working = on_board(store.working.clone(), slot, board);
 }
 
-const OTHER_BOARDS: [u32; 3] = [0, 2, u32::MAX];
+const OTHER_BOARDS: [u32; 4] = [0, QUEUE, 3, u32::MAX];
 
 fn set(thread: u32, key: u32) -> Call {
     Call::Set { thread, key, value: vec![key + 1] }
@@ -301,8 +305,10 @@ fn recovery_declines_another_board_with_3_where_all_else_is_in_order() {
     assert_eq!(judge(&jobs).unwrap().survivors, [0]);
     let refusal = |slot, board| judge(&on_board(jobs.clone(), slot, board)).err();
     assert_eq!(
-        [0, 1, 2].map(|slot| [0, 2, u32::MAX].map(|board| refusal(slot, board))),
+        [0, 1, 2].map(|slot| [0, 3, u32::MAX].map(|board| refusal(slot, board))),
         [[Some(3); 3], [Some(3); 3], [None, Some(3), Some(3)],]
     );
-    assert_eq!([0, 1, 2].map(|slot| refusal(slot, JOBS)), [None, None, Some(3)]);
+    for board in [JOBS, QUEUE] {
+        assert_eq!([0, 1, 2].map(|slot| refusal(slot, board)), [None, None, Some(3)], "board {board}");
+    }
 }

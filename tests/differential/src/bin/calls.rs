@@ -5,10 +5,11 @@ use differential::library::{any, compare, lengths};
 use differential::numbers;
 use differential::smallest::Smallest;
 use simulator::boards::ToldApart;
-use simulator::calls::{image_words, refusal_of, transient_words, Call};
+use simulator::calls::{image_words, refusal_of, transient_words, Call, Refusals};
 use simulator::damage::{any_image, damage_length, damaged_store, edge_word, wild_store};
 use simulator::generator::{any_call, start, unformatted, Mix};
 use simulator::image::Sizes;
+use simulator::queue_cases::QueueCases;
 use simulator::random::Random;
 use simulator::store::Store;
 
@@ -19,16 +20,18 @@ struct Test {
     random: Random,
     calls: u64,
     accepted: u64,
-    refusals: [u64; 17],
+    refusals: Refusals,
     told_apart: ToldApart,
+    queue_cases: QueueCases,
     smallest: Smallest,
 }
 
 fn main() {
     let [seed, count] = numbers("calls SEED COUNT");
     let random = Random::new(seed);
-    let (told_apart, smallest) = (ToldApart::default(), Smallest::default());
-    let mut test = Test { random, calls: 0, accepted: 0, refusals: [0; 17], told_apart, smallest };
+    let (told_apart, queue_cases, smallest) = Default::default();
+    let refusals = Refusals::default();
+    let mut test = Test { random, calls: 0, accepted: 0, refusals, told_apart, queue_cases, smallest };
     while test.calls < count {
         let most = test.random.pick(&MOST_SLOTS);
         let slots = test.random.between(2, most);
@@ -39,23 +42,26 @@ fn main() {
         let wild = wild_store(&mut test.random, slots);
         test.changes(wild, 12);
     }
-    let Test { calls, accepted, refusals, told_apart, smallest, .. } = test;
+    let Test { calls, accepted, refusals, told_apart, queue_cases, smallest, .. } = test;
     smallest.report(seed);
     let ToldApart { no_9, no_11, found_none } = told_apart;
     println!(
         "{calls} calls, no difference, {accepted} accepted, refusals by number {refusals:?}, slots told from jobs by \
-         their board: no 9 {no_9}, no 11 {no_11}, none found {found_none}, seed {seed}"
+         their board: no 9 {no_9}, no 11 {no_11}, none found {found_none}, {queue_cases}, seed {seed}"
     );
     assert!(refusals[1..].iter().all(|&seen| seen >= 100), "too few of some refusal");
     assert!(told_apart.are_at_least(100), "too few slots that only their board tells from a job");
+    assert!(queue_cases.are_at_least(100), "too few of some sort of queue calls");
 }
 
 impl Test {
     /// One call on both sides, and the reply where they agree. The store goes on as the simulator leaves it.
     fn make(&mut self, store: &mut Store, call: &Call) -> Option<u64> {
         self.calls += 1;
+        let before = store.clone();
         match compare(store, call, any) {
             Ok(reply) => {
+                self.queue_cases.note(&before, call, reply);
                 match refusal_of(call, reply) {
                     0 => self.accepted += 1,
                     refusal => self.refusals[refusal as usize] += 1,

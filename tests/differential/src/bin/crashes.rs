@@ -32,14 +32,16 @@ fn main() {
             panic!("run {run} of seed {seed}: {what}");
         }
     }
-    let Counts { calls, crashes, went_on, refusals, within_syncs } = &counts;
+    let Counts { calls, crashes, went_on, refusals, queue_cases, within_syncs } = &counts;
     println!(
         "{runs} runs, {calls} calls, {crashes} cuts, no difference, recover went on {went_on}, {within_syncs}, starts \
-         near 2 {starts_low} and near {LARGEST} {starts_high}, refusals by number {refusals:?}, seed {seed}"
+         near 2 {starts_low} and near {LARGEST} {starts_high}, refusals by number {refusals:?}, {queue_cases}, \
+         seed {seed}"
     );
     assert!(refusals[1..].iter().all(|&seen| seen >= 100), "too few of some refusal");
     let least = WithinSyncs { syncs: 2 * runs, underway: runs / 2, lines: 20 * runs, changing: 4 * runs };
     assert!(within_syncs.are_at_least(least), "too little written back within syncs");
+    assert!(queue_cases.of_runs_are_at_least(100), "too few of some sort of queue calls");
     assert!(starts_low >= 100 && starts_high >= 100, "too few starts near some end of the clock");
 }
 

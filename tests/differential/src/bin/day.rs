@@ -28,11 +28,11 @@ fn main() {
     if let Err(what) = replay_with_some_crashes(&trace, &mut compared, &mut counts, stores) {
         panic!("seed {seed}: {what}");
     }
-    let Counts { calls, crashes, went_on, refusals, within_syncs } = &counts;
+    let Counts { calls, crashes, went_on, refusals, queue_cases, within_syncs } = &counts;
     let (first, last) = (trace.start.working[2], store.working[2]);
     println!(
         "{calls} calls on {SLOTS} slots and {THREADS} threads, clock {first} to {last}, {crashes} cuts, no difference, \
-         recover went on {went_on}, {within_syncs}, refusals by number {refusals:?}, seed {seed}"
+         recover went on {went_on}, {within_syncs}, refusals by number {refusals:?}, {queue_cases}, seed {seed}"
     );
 }
 

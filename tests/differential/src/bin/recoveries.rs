@@ -6,15 +6,17 @@ use differential::numbers;
 use differential::smallest::Smallest;
 use simulator::calls::{refusal_of, transient_words, Call, WENT_ON};
 use simulator::damage::{any_image, damage_length};
-use simulator::image::Sizes;
+use simulator::image::{Sizes, QUEUE};
 use simulator::lister::{bytes_of, clock_answer, survivors_answer};
 use simulator::random::Random;
+use simulator::recovery::surviving_entries;
 use simulator::store::Store;
 
 #[derive(Default)]
 struct Counts {
     calls: u64,
     went_on: u64,
+    entries: u64,
     refusals: [u64; 5],
 }
 
@@ -37,10 +39,14 @@ fn main() {
         }
     }
     smallest.report(seed);
-    let Counts { calls, went_on, refusals } = &counts;
-    println!("{count} images, {calls} calls, went on {went_on}, done and refused 1 to 4 {refusals:?}, seed {seed}");
+    let Counts { calls, went_on, entries, refusals } = &counts;
+    println!(
+        "{count} images, {calls} calls, went on {went_on}, {entries} queue entries survive, done and refused 1 to 4 \
+         {refusals:?}, seed {seed}"
+    );
     let seen = counts.refusals[1..].iter().all(|&seen| seen >= 100) && counts.went_on >= count;
     assert!(seen, "too few of some reply");
+    assert!(*entries >= count / 10, "too few queue entries, which the server does not count");
 }
 
 fn any_store(random: &mut Random, slots: u32) -> Store {
@@ -63,6 +69,8 @@ fn questions(store: &Store, counts: &mut Counts) -> Result<(), String> {
     let wanted = [clock_answer(&bytes), survivors_answer(&bytes)];
     let found = answers(&bytes);
     counts.calls += 2;
+    let entries = surviving_entries(&store.persistent).unwrap_or_default();
+    counts.entries += entries.keys().filter(|(board, _)| *board == QUEUE).count() as u64;
     if found == wanted {
         Ok(())
     } else {

@@ -14,7 +14,7 @@ use simulator::image::{Sizes, LARGEST};
 use simulator::lister::{bytes_of, clock_answer, survivors_answer};
 use simulator::random::Random;
 use simulator::store::Store;
-use simulator::stored::{image_with, stored_images, EXAMPLE};
+use simulator::stored::{image_with, queued, stored_images, EXAMPLE};
 
 const QUESTION: u32 = 1;
 const RECOVERY: u32 = 2;
@@ -143,7 +143,7 @@ impl Cases {
                 try_lengths(length, wrong, one_thread);
                 try_lengths(wrong, wrong, one_thread);
             }
-            for notes in [0, 1, 4, 5, one_thread - 2, one_thread - 1, one_thread, one_thread + 15, one_thread + 16, 900]
+            for notes in [0, 1, 5, 6, one_thread - 2, one_thread - 1, one_thread, one_thread + 15, one_thread + 16, 900]
             {
                 try_lengths(length, length, notes);
             }
@@ -166,7 +166,7 @@ impl Cases {
     }
 }
 
-/// Small images that recovery accepts: of various sizes, kinds, labels and clocks.
+/// Small images that recovery accepts: of various sizes, kinds, labels, clocks and boards.
 fn small_images() -> Vec<Vec<u32>> {
     let latest = LARGEST - 2;
     vec![
@@ -178,5 +178,7 @@ fn small_images() -> Vec<Vec<u32>> {
         image_with(4, 2, 6, &[(1, 2, 1, 3), (2, 3, 1, 3), (2, 4, 1, 3), (2, 5, 1, 3)]),
         image_with(4, 3, 4, &[(1, 2, 1, 3), (1, 2, 2, 4), (1, 2, 3, 5), (1, 2, 4, 6)]),
         image_with(4, 2, 7, &[(3, 4, 9, 1), (3, 5, 9, 1), (1, 3, 9, 1), (1, 7, 8, 2)]),
+        queued(image_with(3, 2, 8, &[(1, 4, 2, 3), (1, 5, 3, 3), (1, 6, 4, 4)]), &[1, 2]),
+        queued(image_with(3, 3, 8, &[(1, 4, 2, LARGEST), (3, 6, 3, 2), (1, 3, 3, 2)]), &[0, 1, 2]),
     ]
 }

@@ -10,11 +10,13 @@ use std::io::Write;
 use std::path::{Path, PathBuf};
 use std::process::{Command, Stdio};
 
-/// How often each refusal came up, and how many slots were in each class.
+/// How often each refusal came up, how many slots were in each class, and how many lines ended in `queue` or not.
 #[derive(Default)]
 struct Seen {
     refusals: [usize; 5],
     classes: [usize; 4],
+    entries: usize,
+    jobs: usize,
 }
 
 fn main() {
@@ -27,14 +29,16 @@ fn main() {
     let mut seen = Seen::default();
     for number in 0..count {
         let bytes = any_bytes(&mut random);
-        let counted = head_count(&bytes);
-        seen.note(&counted);
+        let (counted, listed) = (head_count(&bytes), listing(&bytes));
+        seen.note(&counted, &listed);
         compare(&directory.join("headcount"), &bytes, &counted, number);
-        compare(&directory.join("lister"), &bytes, &listing(&bytes), number);
+        compare(&directory.join("lister"), &bytes, &listed, number);
     }
     let rare = seen.refusals[1..].iter().any(|&times| times < 50) || seen.classes.iter().any(|&slots| slots < 500);
     assert!(!rare, "too few of some kind: refusals {:?}, slots by class {:?}", &seen.refusals[1..], seen.classes);
-    println!("{count} images, seed {seed}, slots by class {:?}", seen.classes);
+    let Seen { classes, jobs, entries, .. } = seen;
+    assert!(jobs >= 500 && entries >= 500, "too few of some board: {jobs} jobs, {entries} queue entries");
+    println!("{count} images, seed {seed}, slots by class {classes:?}, {jobs} jobs, {entries} queue entries");
 }
 
 /// The bytes of an image, now and then of a wrong length.
@@ -53,7 +57,10 @@ fn any_bytes(random: &mut Random) -> Vec<u8> {
 }
 
 impl Seen {
-    fn note(&mut self, counted: &str) {
+    fn note(&mut self, counted: &str, listed: &str) {
+        let (entries, jobs): (Vec<&str>, Vec<&str>) = listed.lines().skip(1).partition(|line| line.ends_with(" queue"));
+        self.entries += entries.len();
+        self.jobs += jobs.len();
         let numbers: Vec<usize> = counted.split_whitespace().filter_map(|word| word.parse().ok()).collect();
         match &numbers[..] {
             [refusal] => self.refusals[*refusal] += 1,

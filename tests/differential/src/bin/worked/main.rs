@@ -1,8 +1,11 @@
-//! The cases that 01 works out, and what the board word changes (02, No. 2), on the library. Usage: worked
+//! The cases that 01 works out, what the board word changes (02, No. 2), and the queue (02, No. 3), on the library.
+//! Usage: worked
+
+mod queue;
 
 use differential::library::{answers, any, compare, lengths};
 use simulator::calls::{refused, Call, DONE, TICKED, WENT_ON};
-use simulator::image::{ALLOC, DELETE, HEADER_WORDS, JOBS, PREFIX, UPDATE};
+use simulator::image::{ALLOC, DELETE, HEADER_WORDS, JOBS, PREFIX, QUEUE, UPDATE};
 use simulator::lister::bytes_of;
 use simulator::store::Store;
 
@@ -13,7 +16,7 @@ const END: Call = Call::End { thread: 0 };
 const BOARD: usize = 3;
 
 fn main() {
-    let cases = [
+    let cases: [fn() -> usize; 11] = [
         sizes_out_of_range,
         notes_of_other_sizes,
         marks_of_three_words,
@@ -26,6 +29,7 @@ fn main() {
         a_slot_on_another_board,
         recoveries_of_other_boards,
     ];
+    let cases: Vec<fn() -> usize> = cases.into_iter().chain(queue::CASES).collect();
     let calls: usize = cases.iter().map(|case| case()).sum();
     println!("{} cases, {calls} calls", cases.len());
 }
@@ -43,7 +47,7 @@ fn sizes_out_of_range() -> usize {
 }
 
 /// "the images or notes differ in sizes": a store with the notes of another N and T, as format left them and as a first
-/// job left them. They are as long as its own: N 3, T 4 and N 4, T 1 have 18 words both.
+/// job left them. They are as long as its own: N 3, T 4 and N 4, T 1 have 19 words both.
 fn notes_of_other_sizes() -> usize {
     let pairs = [((3, 4), (4, 1)), ((4, 1), (3, 4)), ((1024, 1), (1023, 4)), ((2, 16), (7, 1))];
     let mut calls = 0;
@@ -79,6 +83,10 @@ fn each_declines_with_1(store: &mut Store, value: &[u32]) -> usize {
         (delete(9), 1),
         (read(9), refused(1)),
         (read_refusal(9), 1),
+        (Call::Append { thread: 0, value: value.to_vec() }, refused(1)),
+        (Call::Take { thread: 0 }, 1),
+        (Call::Look { thread: 0 }, refused(1)),
+        (Call::LookRefusal { thread: 0 }, 1),
         (Call::Advance, refused(1)),
         (Call::Sync, refused(1)),
         (Call::WriteBack { slot: 0, line: 0 }, 1),
@@ -137,7 +145,7 @@ fn lines_of_a_quiet_sync() -> usize {
     make(&mut store, &[(Call::Format { slots: 8, words: 3 }, 0), (Call::Sync, 2), (Call::Sync, 2)])
 }
 
-const OTHER_BOARDS: [u32; 3] = [0, 2, u32::MAX];
+const OTHER_BOARDS: [u32; 4] = [0, QUEUE, 3, u32::MAX];
 
 /// "A new version and a DELETE carry their payload's board", and "A free mark is now four zeros".
 fn marks_that_job_calls_leave() -> usize {
@@ -218,17 +226,20 @@ fn a_slot_on_another_board() -> usize {
     calls
 }
 
-/// "condition 3 also covers a board other than 1": of each mark of an image that is in order else, a free one too.
+/// 02, No. 3: "condition 3 admits boards 1 and 2": of each mark of an image that is in order else, a free one too. The
+/// first of them survives, and the server counts it where it is a job.
 fn recoveries_of_other_boards() -> usize {
     let in_order = [3, 2, 9, ALLOC, 5, 1, JOBS, UPDATE, 8, 2, JOBS, 0, 0, 0, 0, 3, 30, 4, 40, 5, 50];
     let mut calls = 0;
     for slot in 0..3 {
-        for board in [0, JOBS, 2, u32::MAX] {
+        for board in [0, JOBS, QUEUE, 3, u32::MAX] {
             let mut store = sized(3, 2, 1);
             store.persistent = in_order.to_vec();
-            let is_in_order = mark(&store.persistent, slot)[BOARD] == board;
+            let is_free = mark(&store.persistent, slot) == [0; HEADER_WORDS];
+            let is_in_order = if is_free { board == 0 } else { [JOBS, QUEUE].contains(&board) };
             set_board(&mut store.persistent, slot, board);
-            let wanted = if is_in_order { [9, 1] } else { [refused(3); 2] };
+            let jobs = u64::from(mark(&store.persistent, 0)[BOARD] == JOBS);
+            let wanted = if is_in_order { [9, jobs] } else { [refused(3); 2] };
             assert_eq!(answers(&bytes_of(&store.persistent)), wanted, "slot {slot} on board {board}");
             calls += make(&mut store, &[(Call::Recover, if is_in_order { WENT_ON } else { refused(3) })]);
         }
@@ -268,8 +279,8 @@ fn make(store: &mut Store, calls: &[(Call, u64)]) -> usize {
 fn sized(slots: u32, words: u32, threads: u32) -> Store {
     let mut image = vec![0; PREFIX + (HEADER_WORDS + words as usize) * slots as usize];
     image[..3].copy_from_slice(&[slots, words, 2]);
-    let mut transient = vec![0; (5 + threads + 3 * slots) as usize];
-    transient[..3].copy_from_slice(&[slots, slots - 1, 1]);
+    let mut transient = vec![0; (6 + threads + 3 * slots) as usize];
+    transient[..4].copy_from_slice(&[slots, slots - 1, 1, 1]);
     Store { working: image.clone(), persistent: image, transient }
 }
 
