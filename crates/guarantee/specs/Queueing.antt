@@ -21,7 +21,7 @@ use Rattle.reply.specs.declared.Refusal.the-variants.{Newer, NoUid, Full, Queue
 use Rattle.reply.specs.Refusals.{byCheck}
 use Rattle.image.specs.Layout.{mostNumber, queueBoard, payloadKind, header, keyAt}
 use Rattle.image.specs.declared.name.Name.{Name}
-use Rattle.image.specs.Name.{entryName, nameOf, name-is as name-made, key-same}
+use Rattle.image.specs.Name.{entryName, name-is as name-made, names-meet, key-same}
 use Rattle.transient.specs.declared.sizes.Sizes.{Sizes}
 use Rattle.transient.specs.Layout.{note, lastAt, nextUidAt, nextOrderAt, openEpoch, retiredIn, setNote}
 use Rattle.transient.specs.Store.{Store, store, table, tableOf}
@@ -42,7 +42,7 @@ use Rattle.crash.specs.Reference.{Jobs}
 use Rattle.crash.specs.Slots.{Slot, Filled}
 use Rattle.crash.specs.Steps.{Foremost}
 use Rattle.crash.specs.Fifo.{front-from}
-use Rattle.guarantee.specs.Trace.{Plain, toldChange, toldAppend, frontName}
+use Rattle.guarantee.specs.Trace.{Plain, toldChange, toldAppend, frontOrder}
 use Rattle.guarantee.specs.View.{view, view-in}
 use Rattle.guarantee.specs.Good.{stateOf, Good}
 use Rattle.guarantee.specs.Notes.{Joined, order-joins}
@@ -175,28 +175,28 @@ module _ {sz : Sizes} {start : Jobs} {wk l tr : List ℕ} {p : Plain} (thread : 
 
   -- the front's name, as the slot has it
   abbrev nameIn : ℕ → Name
-  nameIn s = nameOf (header wk s .board) (keyAt wk (sz .n) (sz .w) s)
+  nameIn s = entryName (keyAt wk (sz .n) (sz .w) s)
 
-  named-front : {s : ℕ} → frontSlot sz (table wk tr) ≡ At s → frontName (store wk l tr) ≡ nameIn s
-  named-front {s} q = rw (sizes-is g, q) (name-made wk (sz .n) (sz .w) s)
+  front-order : {s : ℕ} → frontSlot sz (table wk tr) ≡ At s → entryName (frontOrder (store wk l tr)) ≡ nameIn s
+  front-order q = rw (sizes-is g, q)
 
   taken-fine : (s : ℕ) → Faced sz (table wk tr) ep s → Fine sz start l p thread (nameIn s) none (deleteAt sz (table wk tr) ep s (keyAt wk (sz .n) (sz .w) s))
   taken-fine s w =
       let f = front-of g thread within begun refl (w .newest) (w .found) in
       let h = f .0 in
-      let named : view (store wk l tr) sz (p .clock) s .working .name ≡ nameIn s = name-is g s h ∙ name-made wk (sz .n) (sz .w) s in
+      let named : view (store wk l tr) sz (p .clock) s .working .name ≡ nameIn s = names-meet (f .1 .board-is) (key-of g s h) in
       let lives : Lives g (nameIn s) s = record { below = h; payload = f .1 .of .payload; current = f .1 .of .current; named = named } in
       gone-fine thread (nameIn s) s g within begun lives (f .1 .newest s (f .1 .of .payload .0) (f .1 .board-is))
       (λ _ _ d b. rw (key-same named) at (front-from (g .inv) (f .1) d b)) last
 
   -- 9 and 17
-  take-fine : Fine sz start l p thread (frontName (store wk l tr)) none (takeOpen sz (table wk tr) ep)
+  take-fine : Fine sz start l p thread (entryName (frontOrder (store wk l tr))) none (takeOpen sz (table wk tr) ep)
   unfolding takeOpen
   take-fine = go (frontLookup sz (table wk tr) ep) refl
     where
-      go : (k : Lookup) → frontLookup sz (table wk tr) ep ≡ k → Fine sz start l p thread (frontName (store wk l tr)) none (takeLooked k sz (table wk tr) ep)
+      go : (k : Lookup) → frontLookup sz (table wk tr) ep ≡ k → Fine sz start l p thread (entryName (frontOrder (store wk l tr))) none (takeLooked k sz (table wk tr) ep)
       go look.Later q = fine-refused g Newer
-      go (look.Live s) q = let w = front-faced sz (table wk tr) ep s q in fine-as (named-front (w .found)) (taken-fine s w)
+      go (look.Live s) q = let w = front-faced sz (table wk tr) ep s q in fine-as (front-order (w .found)) (taken-fine s w)
       go look.Absent q = fine-refused g QueueEmpty
 
 -- ---- the calls: 5, 7 and 8
@@ -220,6 +220,6 @@ module _ {sz : Sizes} {start : Jobs} {st : Store} {p : Plain} (thread : ℕ) whe
       (λ a. fine-way g (badValue sz value) _
       (λ h b c. append-fine thread value g h b (value-words sz value (g .working .sized .sizes .width-lo) c) (order-low g a) (last-below g a))))
 
-  pub take-good : Good sz start st p → Good sz start (takeEntry st thread .store) (toldChange thread (frontName st) none (takeEntry st thread .reply) p)
+  pub take-good : Good sz start st p → Good sz start (takeEntry st thread .store) (toldChange thread (entryName (frontOrder st)) none (takeEntry st thread .reply) p)
   unfolding takeEntry takeSized takeOpen
   take-good g = fine-call (takeSized thread) g (λ a. fine-way g false _ (λ h b c. take-fine thread g h b (last-below g a)))

@@ -8,9 +8,9 @@ use Rattle.search.specs.First.{whereFound}
 use Rattle.reply.specs.declared.Check.{Check}
 use Rattle.reply.specs.declared.Check.the-variants.{Accepted}
 use Rattle.reply.specs.Refusals.{byCheck}
-use Rattle.image.specs.Layout.{slotsOf, clockOf}
+use Rattle.image.specs.Layout.{keyAt, slotsOf, clockOf}
 use Rattle.image.specs.declared.name.Name.{Name}
-use Rattle.image.specs.Name.{jobName, entryName, nameAt}
+use Rattle.image.specs.Name.{jobName, entryName}
 use Rattle.transient.specs.Store.{Store, tableOf, sizesOf, Outcome}
 use Rattle.begin_end.specs.Operation.{begin, end}
 use Rattle.jobs.specs.Job.{Job}
@@ -76,10 +76,9 @@ abbrev pub toldAppend : ℕ → List ℕ → Append → Plain → Plain
 toldAppend thread value (Given order) p = toldChange thread (entryName order) (some value) Accepted p
 toldAppend thread value (Declined r) p = p
 
--- .. and an accepted take takes away the entry that stood at the front; that it is the smallest is a claim (`Promise .fifo`)
-abbrev pub frontName : Store → Name
-frontName st =
-    let z = sizesOf (tableOf st) in whereFound (frontSlot z (tableOf st)) (nameAt (st .working) (z .n) (z .w)) (entryName 0)
+-- .. and an accepted take takes away the entry that stood at the front; that its number is the smallest is a claim (`Promise .fifo`)
+abbrev pub frontOrder : Store → ℕ
+frontOrder st = let z = sizesOf (tableOf st) in whereFound (frontSlot z (tableOf st)) (keyAt (st .working) (z .n) (z .w)) 0
 
 -- "Ticked, from an advance call or one within a sync, adds 1 to the clock. All else, any refused call too, changes nothing."
 abbrev pub toldAdvance : Advance → Plain → Plain
@@ -139,7 +138,7 @@ through (sets thread j) m = one (told (setJob (m .store) thread j) (toldChange t
 through (deletes thread key) m = one (told (deleteJob (m .store) thread key) (toldChange thread (jobName key) none) m)
 through (reads thread key) m = one m
 through (appends thread value) m = one (told (appendEntry (m .store) thread value) (toldAppend thread value) m)
-through (takes thread) m = one (told (takeEntry (m .store) thread) (toldChange thread (frontName (m .store)) none) m)
+through (takes thread) m = one (told (takeEntry (m .store) thread) (toldChange thread (entryName (frontOrder (m .store))) none) m)
 through (looks thread) m = one m
 through advances m = one (afterAdvance m)
 through (syncs lines) m = byCheck (syncCheck (m .store)) (λ _. stay m) (syncing (2 * (3 * slotsOf (m .store .working) + 1)) 2 0 lines m)
