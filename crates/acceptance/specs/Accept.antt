@@ -9,23 +9,18 @@ use Rattle.reply.specs.declared.Check.the-variants.{Accepted}
 use Rattle.reply.specs.declared.Refusal.the-variants.{BadSizes, BadClock, BadSlot, Duplicate}
 use Rattle.reply.specs.Refusals.{refuse}
 use Rattle.image.specs.declared.header.Header.{Header}
-use Rattle.image.specs.Layout.{mostNumber, jobsBoard, queueBoard, filledKind, header, slotsOf, widthOf, clockOf, shapeOk, clockOk}
+use Rattle.image.specs.Layout.{mostNumber, queueBoard, hasZero, header, slotsOf, widthOf, clockOf, shapeOk, clockOk}
 use Rattle.image.specs.declared.name.Name.{Name}
 use Rattle.image.specs.Name.{nameAt, sameName, misnamed}
 use Rattle.survival.specs.Survivors.{kept, survivor}
 
--- "A free mark is now four zeros"
-unfoldable pub blankHeader : Header → Bool
-blankHeader h = eqb (h .kind) 0 && (eqb (h .epoch) 0 && (eqb (h .uid) 0 && eqb (h .board) 0))
-
 -- "A filled mark has a label from 2 to the clock and a uid from 1 to 4,000,000,000"; 02, No. 3: "condition 3 admits boards 1 and 2"
-unfoldable pub filledHeader : ℕ → Header → Bool
-filledHeader c h =
-    filledKind (h .kind) && (leb 2 (h .epoch) && (leb (h .epoch) c && (leb 1 (h .uid) && (leb (h .uid) mostNumber
-    && (leb jobsBoard (h .board) && leb (h .board) queueBoard)))))
+unfoldable pub inRange : ℕ → Header → Bool
+inRange c h = leb (h .kind) 3 && (leb 2 (h .epoch) && (leb (h .epoch) c && (leb (h .uid) mostNumber && leb (h .board) queueBoard)))
 
+-- 02, No. 4: "of marks, condition 3 rejects only those of four nonzero words, one out of range"
 unfoldable pub proper : ℕ → Header → Bool
-proper c h = blankHeader h || filledHeader c h
+proper c h = hasZero h || inRange c h
 
 -- "two kept slots equal in uid and label": slot s is kept, and so is some slot below it with its uid and label
 unfoldable pub versionBelow : ℕ → (ℕ → Header) → ℕ → Bool
@@ -40,7 +35,7 @@ unfoldable pub nameBelow : List ℕ → ℕ → ℕ → ℕ → Bool
 nameBelow l n w s = survivor l n s && anyOf (survivesAs l n w (nameAt l n w s)) s
 
 -- 1: "N, W .. outside its range; image length wrong"; 2: "clock outside 2 to 4,000,000,000";
--- 3: a mark neither four zeros nor properly filled; "a survivor with key 0", or one of board 2 with a key above 4,000,000,000;
+-- 3: a mark of four nonzero words, one out of range; "a survivor with key 0", or one of board 2 with a key above 4,000,000,000;
 -- 4: "two kept slots equal in uid and label, or two survivors equal in key", whatever the boards of the one, within one board the other
 unfoldable pub imageCheck : List ℕ → Check
 imageCheck l =

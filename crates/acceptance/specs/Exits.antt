@@ -1,7 +1,7 @@
 -- The ways out of this crate's functions: a law for each, and for each call.
 use Prim.Native.Nat.{ℕ, _-_, _≤_, _<_}
 use mathlib.Core.Path.{_≡_, refl, sym, _∙_}
-use mathlib.Core.Bool.{Bool, true, false, _&&_, and-true, and-false}
+use mathlib.Core.Bool.{Bool, true, false, _&&_, and-true, and-false, or-true, or-false}
 use mathlib.Core.List.{List}
 use lib.ListN.{length, getD}
 use lib.Dec.{leb, eqb}
@@ -17,7 +17,7 @@ use Rattle.reply.specs.declared.Refusal.{Refusal}
 use Rattle.reply.specs.declared.Refusal.the-variants.{BadSizes, BadClock, BadSlot, Duplicate}
 use Rattle.reply.specs.Refusals.{declinedNumber}
 use Rattle.image.specs.declared.header.Header.{Header}
-use Rattle.image.specs.Layout.{mostNumber, jobsBoard, queueBoard, filledKind, header, keyAt, slotsOf, widthOf, clockOf, shapeOk, clockOk}
+use Rattle.image.specs.Layout.{mostNumber, jobsBoard, queueBoard, hasZero, header, keyAt, slotsOf, widthOf, clockOf, shapeOk, clockOk}
 use Rattle.image.specs.declared.name.Name.{Name}
 use Rattle.image.specs.Name.{nameAt, sameName, misnamed, same-name, name-is, key-same}
 use Rattle.image.specs.Requires.{Sized, Slot, HeaderFits, slot}
@@ -29,70 +29,44 @@ use Rattle.chains.specs.Chased.{Chased, chased-under, chased-slot, walks}
 use Rattle.survival.specs.Survivors.{kept, survivor, survivesOn}
 use Rattle.survival.specs.Requires.{SlotMarked, FlagAt, uids, header-in, slot-marked, flag-at, flag-header, uids-small, uids-large, marks}
 use Rattle.survival.specs.Laws.{flag-is, uid-at}
-use Rattle.acceptance.specs.Accept.{blankHeader, filledHeader, proper, versionBelow, survivesAs, nameBelow, imageCheck}
+use Rattle.acceptance.specs.Accept.{inRange, proper, versionBelow, survivesAs, nameBelow, imageCheck}
 use Rattle.acceptance.specs.Questions.{clockAnswer, jobCount, survivorsAnswer}
 use Rattle.acceptance.specs.Requires.{headCheck, nameless, slotsCheck, survivorsPast, sameVersion, versionIn, UidChains, UidsAt, VersionOf, KeysUnlinked, KeysAt, NameOf, uid-chains, uids-at, version-of, keys-small, keys-large, keys-unlinked, key-chains, keys-at, name-of, allProper, someNameless, versionTwice, nameTwice}
 use Rattle.acceptance.specs.Laws.{image-is, head-sized, image-sized}
 
 -- ---- headers that are proper
-module _ (h : Header) where
-  pub blank-kind : (h .kind ≡ 0 → ⊥) → false ≡ blankHeader h
-  unfolding blankHeader
-  blank-kind a = rw (ne-eqb (h .kind) 0 a)
+module _ (c : ℕ) (h : Header) where
+  pub range-kind : 3 < h .kind → false ≡ inRange c h
+  unfolding inRange
+  range-kind k = rw (lt-leb (h .kind) 3 k)
 
-  pub blank-epoch : h .kind ≡ 0 → (h .epoch ≡ 0 → ⊥) → false ≡ blankHeader h
-  unfolding blankHeader
-  blank-epoch a b = rw (eq-eqb (h .kind) 0 a, ne-eqb (h .epoch) 0 b)
+  module _ (k : h .kind ≤ 3) where
+    pub range-early : h .epoch < 2 → false ≡ inRange c h
+    unfolding inRange
+    range-early a = rw (le-leb (h .kind) 3 k, lt-leb 2 (h .epoch) a)
 
-  module _ (a : h .kind ≡ 0) (b : h .epoch ≡ 0) where
-    pub blank-uid : (h .uid ≡ 0 → ⊥) → false ≡ blankHeader h
-    unfolding blankHeader
-    blank-uid u = rw (eq-eqb (h .kind) 0 a, eq-eqb (h .epoch) 0 b, ne-eqb (h .uid) 0 u)
+    module _ (a : 2 ≤ h .epoch) where
+      pub range-late : c < h .epoch → false ≡ inRange c h
+      unfolding inRange
+      range-late b = rw (le-leb (h .kind) 3 k, le-leb 2 (h .epoch) a, lt-leb (h .epoch) c b)
 
-    pub blank-rest : h .uid ≡ 0 → eqb (h .board) 0 ≡ blankHeader h
-    unfolding blankHeader
-    blank-rest u = rw (eq-eqb (h .kind) 0 a, eq-eqb (h .epoch) 0 b, eq-eqb (h .uid) 0 u)
+      module _ (b : h .epoch ≤ c) where
+        pub range-uid : mostNumber < h .uid → false ≡ inRange c h
+        unfolding inRange
+        range-uid u = rw (le-leb (h .kind) 3 k, le-leb 2 (h .epoch) a, le-leb (h .epoch) c b, lt-leb (h .uid) mostNumber u)
 
-module _ (c : ℕ) (h : Header) {f : Bool} (fl : f ≡ filledKind (h .kind)) where
-  pub filled-no : f ≡ false → false ≡ filledHeader c h
-  unfolding filledHeader
-  filled-no t = rw (← fl, t)
+        pub range-board : h .uid ≤ mostNumber → leb (h .board) queueBoard ≡ inRange c h
+        unfolding inRange
+        range-board u = rw (le-leb (h .kind) 3 k, le-leb 2 (h .epoch) a, le-leb (h .epoch) c b, le-leb (h .uid) mostNumber u)
 
-  pub filled-early : f ≡ true → h .epoch < 2 → false ≡ filledHeader c h
-  unfolding filledHeader
-  filled-early t a = rw (← fl, t, lt-leb 2 (h .epoch) a)
-
-  module _ (ft : f ≡ true) (a : 2 ≤ h .epoch) where
-    pub filled-late : c < h .epoch → false ≡ filledHeader c h
-    unfolding filledHeader
-    filled-late b = rw (← fl, ft, le-leb 2 (h .epoch) a, lt-leb (h .epoch) c b)
-
-    module _ (b : h .epoch ≤ c) where
-      pub filled-zero : h .uid < 1 → false ≡ filledHeader c h
-      unfolding filledHeader
-      filled-zero d = rw (← fl, ft, le-leb 2 (h .epoch) a, le-leb (h .epoch) c b, lt-leb 1 (h .uid) d)
-
-      pub filled-high : 1 ≤ h .uid → mostNumber < h .uid → false ≡ filledHeader c h
-      unfolding filledHeader
-      filled-high d u = rw (← fl, ft, le-leb 2 (h .epoch) a, le-leb (h .epoch) c b, le-leb 1 (h .uid) d, lt-leb (h .uid) mostNumber u)
-
-      module _ (d : 1 ≤ h .uid) (u : h .uid ≤ mostNumber) where
-        pub filled-none : h .board < jobsBoard → false ≡ filledHeader c h
-        unfolding filledHeader
-        filled-none p = rw (← fl, ft, le-leb 2 (h .epoch) a, le-leb (h .epoch) c b, le-leb 1 (h .uid) d, le-leb (h .uid) mostNumber u, lt-leb jobsBoard (h .board) p)
-
-        pub filled-board : jobsBoard ≤ h .board → leb (h .board) queueBoard ≡ filledHeader c h
-        unfolding filledHeader
-        filled-board p = rw (← fl, ft, le-leb 2 (h .epoch) a, le-leb (h .epoch) c b, le-leb 1 (h .uid) d, le-leb (h .uid) mostNumber u, le-leb jobsBoard (h .board) p)
-
-module _ (c : ℕ) (l : List ℕ) (s : ℕ) {h : Header} {b : Bool} (at : h ≡ header l s) (bl : b ≡ blankHeader h) where
-  pub proper-blank : b ≡ true → true ≡ proper c (header l s)
+module _ (c : ℕ) (l : List ℕ) (s : ℕ) {h : Header} {r : Bool} (at : h ≡ header l s) (ra : r ≡ inRange c h) where
+  pub proper-range : r ≡ true → true ≡ proper c (header l s)
   unfolding proper
-  proper-blank t = rw (← at, ← bl, t)
+  proper-range t = rw (← at, ← ra, t) (sym (or-true (hasZero h)))
 
-  pub proper-else : {r : Bool} → b ≡ false → r ≡ filledHeader c h → r ≡ proper c (header l s)
+  pub proper-zero : {z : Bool} → r ≡ false → z ≡ hasZero h → z ≡ proper c (header l s)
   unfolding proper
-  proper-else t e = rw (← at, ← bl, t) e
+  proper-zero t e = rw (← at, ← ra, t) (e ∙ sym (or-false (hasZero h)))
 
 pub proper-every : (l : List ℕ) (n : ℕ) {c : ℕ} {r : Bool} → c ≡ clockOf l → r ≡ every (λ s. proper c (header l s)) n → r ≡ allProper l n
 unfolding allProper
@@ -329,7 +303,7 @@ module _ {l : List ℕ} {n w s : ℕ} {name : Name} {flags : List Bool} {below :
   named-below y q = slot-marked (z .at .chains .marked) (omega (arith, chased-slot y q, z .at .within))
 
 -- headers, and the checks of an image
-pub ruleset laws = (tests, firsts, somes, marks, blank-kind, blank-epoch, blank-uid, blank-rest, filled-no, filled-early, filled-late, filled-zero, filled-high, filled-none, filled-board, proper-blank, proper-else, proper-every, nameless-yes, nameless-no, some-nameless, head-shape, head-clock, head-fine, shape-room, slots-improper, slots-nameless, slots-version, slots-named, slots-fine)
+pub ruleset laws = (tests, firsts, somes, marks, range-kind, range-early, range-late, range-uid, range-board, proper-range, proper-zero, proper-every, nameless-yes, nameless-no, some-nameless, head-shape, head-clock, head-fine, shape-room, slots-improper, slots-nameless, slots-version, slots-named, slots-fine)
 
 -- the whole check, and the questions
 pub ruleset answer-laws = (tests, counts, marks, flag-at, flag-header, job-board, job-gone, jobs-counted, check-declines, check-goes, check-long, check-sized, clock-declines, clock-goes, image-head, survivors-declines, survivors-goes, past-declines, past-goes)

@@ -4,18 +4,18 @@ use mathlib.Core.Path.{_≡_, sym, _∙_}
 use mathlib.Core.Bool.{true, false, not, _||_}
 use mathlib.Core.Logic.{_⊎_, inl, inr, ⊎-elim}
 use mathlib.Core.List.{List}
-use lib.Dec.{leb, eqb}
-use borrow.Author.Tests.{leb-true, eqb-true, le-leb, eq-eqb, not-false}
-use native.Mathlib.Omega.{arith}
-use Rattle.search.specs.Bools.{cases, and-left, and-right, and-both, or-left, or-right}
+use lib.Dec.{leb}
+use borrow.Author.Tests.{leb-true, le-leb, eq-eqb, not-false}
+use Rattle.search.specs.Bools.{cases, never, and-left, and-right, and-both, or-left, or-right}
 use Rattle.search.specs.Some.{anyOf, some-none, none-some, every, every-at, at-every}
 use Rattle.reply.specs.declared.Check.the-variants.{Accepted}
 use Rattle.reply.specs.declared.Refusal.the-variants.{BadSizes, BadClock, BadSlot, Duplicate}
 use Rattle.reply.specs.Refusals.{refuse, not-refused, both-accepted}
 use Rattle.image.specs.declared.header.Header.{Header}
-use Rattle.image.specs.Layout.{mostSlots, mostNumber, jobsBoard, queueBoard, filledKind, header, slotsOf, widthOf, clockOf, sizesOk, shapeOk, clockOk}
+use Rattle.image.specs.Layout.{mostSlots, mostNumber, queueBoard, hasZero, isFilled, header, slotsOf, widthOf, clockOf, sizesOk, shapeOk, clockOk}
+use Rattle.image.specs.Whole.{whole-says, says-filled, zero-unfilled}
 use Rattle.image.specs.Requires.{Sized}
-use Rattle.acceptance.specs.Accept.{blankHeader, filledHeader, proper, versionBelow, nameBelow, imageCheck}
+use Rattle.acceptance.specs.Accept.{inRange, proper, versionBelow, nameBelow, imageCheck}
 use Rattle.acceptance.specs.Requires.{headCheck, nameless, slotsCheck}
 use Rattle.acceptance.specs.Laws.{image-is, image-sized}
 
@@ -41,71 +41,46 @@ sound l n w e =
       names = some-none (nameBelow l n w) n (or-right v y (two .0));
     }
 
--- a proper header is free, or filled within its bounds
+-- a proper header counts as free, or is filled within its bounds
 pub record FilledOk (c : ℕ) (h : Header) : Type 0 where
-  pub filled : filledKind (h .kind) ≡ true
+  pub filled : isFilled h ≡ true
+  pub kind-hi : h .kind ≤ 3
   pub epoch-lo : 2 ≤ h .epoch
   pub epoch-hi : h .epoch ≤ c
-  pub uid-lo : 1 ≤ h .uid
   pub uid-hi : h .uid ≤ mostNumber
-  pub board-lo : jobsBoard ≤ h .board
   pub board-hi : h .board ≤ queueBoard
 
-pub record FreeOk (h : Header) : Type 0 where
-  pub kind-is : h .kind ≡ 0
-  pub epoch-is : h .epoch ≡ 0
-  pub uid-is : h .uid ≡ 0
-  pub board-is : h .board ≡ 0
-
-filled-ok : (c : ℕ) (h : Header) → filledHeader c h ≡ true → FilledOk c h
-unfolding filledHeader
-filled-ok c h e =
-    let k = filledKind (h .kind) in
+filled-ok : (c : ℕ) (h : Header) → hasZero h ≡ false → inRange c h ≡ true → FilledOk c h
+unfolding inRange
+filled-ok c h z e =
+    let k = leb (h .kind) 3 in
     let a = leb 2 (h .epoch) in
     let b = leb (h .epoch) c in
-    let d = leb 1 (h .uid) in
     let u = leb (h .uid) mostNumber in
-    let j = leb jobsBoard (h .board) in
     let e1 = and-right k _ e in
     let e2 = and-right a _ e1 in
     let e3 = and-right b _ e2 in
-    let e4 = and-right d _ e3 in
-    let e5 = and-right u _ e4 in
+    let top = leb-true (h .kind) 3 (and-left k _ e) in
     record {
-      filled = and-left k _ e;
+      filled = says-filled h (record { whole = whole-says h z; kind-hi = top });
+      kind-hi = top;
       epoch-lo = leb-true 2 (h .epoch) (and-left a _ e1);
       epoch-hi = leb-true (h .epoch) c (and-left b _ e2);
-      uid-lo = leb-true 1 (h .uid) (and-left d _ e3);
-      uid-hi = leb-true (h .uid) mostNumber (and-left u _ e4);
-      board-lo = leb-true jobsBoard (h .board) (and-left j _ e5);
-      board-hi = leb-true (h .board) queueBoard (and-right j _ e5);
+      uid-hi = leb-true (h .uid) mostNumber (and-left u _ e3);
+      board-hi = leb-true (h .board) queueBoard (and-right u _ e3);
     }
 
-free-ok : (h : Header) → blankHeader h ≡ true → FreeOk h
-unfolding blankHeader
-free-ok h e =
-    let k = eqb (h .kind) 0 in
-    let a = eqb (h .epoch) 0 in
-    let u = eqb (h .uid) 0 in
-    let e1 = and-right k _ e in
-    let e2 = and-right a _ e1 in
-    record {
-      kind-is = eqb-true (h .kind) 0 (and-left k _ e);
-      epoch-is = eqb-true (h .epoch) 0 (and-left a _ e1);
-      uid-is = eqb-true (h .uid) 0 (and-left u _ e2);
-      board-is = eqb-true (h .board) 0 (and-right u _ e2);
-    }
-
-pub proper-cases : (c : ℕ) (h : Header) → proper c h ≡ true → FreeOk h ⊎ FilledOk c h
+pub proper-cases : (c : ℕ) (h : Header) → proper c h ≡ true → (hasZero h ≡ true) ⊎ FilledOk c h
 unfolding proper
 proper-cases c h e =
     ⊎-elim
-    (λ (b : blankHeader h ≡ true). inl (free-ok h b))
-    (λ (b : blankHeader h ≡ false). let f : filledHeader c h ≡ true = rw b at e in inr (filled-ok c h f))
-    (cases (blankHeader h))
+    (λ (b : hasZero h ≡ true). inl b)
+    (λ (b : hasZero h ≡ false). let f : inRange c h ≡ true = rw b at e in inr (filled-ok c h b f))
+    (cases (hasZero h))
 
-pub uid-top : (c : ℕ) (h : Header) → proper c h ≡ true → h .uid ≤ mostNumber
-uid-top c h e = ⊎-elim (λ (f : FreeOk h). omega arith) (λ (f : FilledOk c h). omega arith) (proper-cases c h e)
+-- .. and one that is filled is within them
+pub filled-proper : (c : ℕ) (h : Header) → isFilled h ≡ true → proper c h ≡ true → FilledOk c h
+filled-proper c h f e = ⊎-elim (λ (z : hasZero h ≡ true). never (isFilled h) f (zero-unfilled h z)) (λ (o : FilledOk c h). o) (proper-cases c h e)
 
 -- ---- an accepted image, as facts
 pub record Accepts (l : List ℕ) : Type 0 where

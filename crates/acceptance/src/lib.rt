@@ -10,47 +10,25 @@ ghost use mathlib.Core.Path.{_≡_};
 ghost use Rattle.image.specs.Layout.{header};
 ghost use Rattle.image.specs.Requires.{HeaderFits, Sized};
 ghost use Rattle.survival.specs.Requires.{Headers, SlotMarked, AllMarked};
-ghost use Rattle.acceptance.specs.Accept.{blankHeader, filledHeader, proper, imageCheck};
+ghost use Rattle.acceptance.specs.Accept.{inRange, proper, imageCheck};
 ghost use Rattle.acceptance.specs.Requires.{headCheck, nameless, slotsCheck, allProper, someNameless};
 
-pub fn blank_header(h: Header) -> bool
-    ensures { λ r. ⌜ r ≡ blankHeader h ⌝ }
+fn in_range(h: Header, c: u32) -> bool
+    ensures { λ r. ⌜ r ≡ inRange c h ⌝ }
 {
-    if h.kind != Header::FREE {
+    if Header::DELETE < h.kind {
         return false;
     }
-    if h.epoch != 0 {
+    if h.epoch < 2 {
         return false;
     }
-    if h.uid != 0 {
+    if c < h.epoch {
         return false;
     }
-    h.board == 0
-}
-
-fn filled_header(h: Header, c: u32) -> bool
-    ensures { λ r. ⌜ r ≡ filledHeader c h ⌝ }
-{
-    if image::header::filled(h.kind) {
-        if h.epoch < 2 {
-            return false;
-        }
-        if c < h.epoch {
-            return false;
-        }
-        if h.uid < 1 {
-            return false;
-        }
-        if image::shape::MOST_NUMBER < h.uid {
-            return false;
-        }
-        if h.board < Header::JOBS {
-            return false;
-        }
-        h.board <= Header::QUEUE
-    } else {
-        false
+    if image::shape::MOST_NUMBER < h.uid {
+        return false;
     }
+    h.board <= Header::QUEUE
 }
 
 fn proper_at(img: &[u32], n: usize, c: u32, s: usize) -> bool
@@ -58,10 +36,10 @@ fn proper_at(img: &[u32], n: usize, c: u32, s: usize) -> bool
     ensures { λ r. ⌜ r ≡ proper c (header (now (img .entry)) s) ⌝ }
 {
     let h = image::header::header_at(img, n, s);
-    if blank_header(h) {
+    if in_range(h, c) {
         return true;
     }
-    filled_header(h, c)
+    image::header::has_zero(h)
 }
 
 fn all_proper(img: &[u32], n: usize) -> bool

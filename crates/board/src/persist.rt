@@ -1,4 +1,4 @@
-// The calls that make changes lasting: advance, sync, and a line written back.
+// The calls that make changes lasting: advance, sync, and a word written back.
 use step::Advance;
 use sync::answer::Sync;
 ghost use mathlib.Core.Path.{_≡_};
@@ -52,10 +52,9 @@ pub extern "C" fn board_write_back(
     working: &[u32],
     persistent: &mut [u32],
     transient: &[u32],
-    slot: u32,
-    line: u32,
+    position: usize,
 ) -> u32
-    ensures { λ r. ⌜ outcome r (now (working .entry)) (now (persistent .exit)) (now (transient .entry)) ≡ numbered checkNumber (writeBack (store (now (working .entry)) (now (persistent .entry)) (now (transient .entry))) slot line) ⌝ }
+    ensures { λ r. ⌜ outcome r (now (working .entry)) (now (persistent .exit)) (now (transient .entry)) ≡ numbered checkNumber (writeBack (store (now (working .entry)) (now (persistent .entry)) (now (transient .entry))) position) ⌝ }
 {
-    crate::on_jobs::reply_number(write_back::write_back(working, persistent, transient, slot, line))
+    crate::on_jobs::reply_number(write_back::write_back(working, persistent, transient, position))
 }

@@ -5,19 +5,18 @@ use mathlib.Core.Bool.{Bool, not, _&&_}
 use mathlib.Core.List.{List}
 use lib.Dec.{ltb}
 use Rattle.search.specs.Count.{count}
-use Rattle.image.specs.Layout.{filledKind, header, clockOf}
+use Rattle.image.specs.Layout.{hasZero, isFilled, header, clockOf}
 use Rattle.survival.specs.Survivors.{kept, survivor}
-use Rattle.acceptance.specs.Accept.{blankHeader}
 use Rattle.classes.specs.declared.Class.{Class}
 use Rattle.classes.specs.declared.Class.the-variants.{Free, Surviving, Kept, New}
 use Rattle.classes.specs.declared.HeadCount.{HeadCount}
 
 -- is slot s of an image of n slots in that class?
 unfoldable pub inClass : Class → List ℕ → ℕ → ℕ → Bool
-inClass Free l n s = blankHeader (header l s)
+inClass Free l n s = hasZero (header l s)
 inClass Surviving l n s = survivor l n s
 inClass Kept l n s = kept (clockOf l) (header l s) && not (survivor l n s)
-inClass New l n s = filledKind (header l s .kind) && ltb (clockOf l) (header l s .epoch + 2)
+inClass New l n s = isFilled (header l s) && ltb (clockOf l) (header l s .epoch + 2)
 
 unfoldable pub headCount : List ℕ → ℕ → HeadCount
 headCount l n =

@@ -11,10 +11,9 @@ use native.Mathlib.Omega.{arith}
 use Rattle.search.specs.Bools.{tests}
 use Rattle.search.specs.Count.{count, Counted, counted-start, counted-hit, counted-miss, counted-end}
 use Rattle.image.specs.declared.header.Header.{Header}
-use Rattle.image.specs.Layout.{filledKind, header, clockOf}
+use Rattle.image.specs.Layout.{hasZero, isFilled, header, clockOf}
 use Rattle.survival.specs.Survivors.{kept}
 use Rattle.survival.specs.Requires.{Marked, FlagAt, flag-at, flag-header, flag-of}
-use Rattle.acceptance.specs.Accept.{blankHeader}
 use Rattle.classes.specs.declared.Class.{Class}
 use Rattle.classes.specs.declared.Class.the-variants.{Free, Surviving, Kept, New}
 use Rattle.classes.specs.declared.HeadCount.{HeadCount}
@@ -32,7 +31,7 @@ module _ (c : ℕ) (h : Header) (s : Bool) {k : Bool} (kp : k ≡ kept c h) wher
   pub only-no : k ≡ false → false ≡ (kept c h && not s)
   only-no t = rw (← kp, t)
 
-module _ (c : ℕ) (h : Header) {f : Bool} (fl : f ≡ filledKind (h .kind)) where
+module _ (c : ℕ) (h : Header) {f : Bool} (fl : f ≡ isFilled h) where
   pub new-filled : {d e : ℕ} → f ≡ true → d ≡ c → e ≡ h .epoch → ltb d (e + 2) ≡ tooNew c h
   unfolding tooNew
   new-filled t p q = rw (← fl, t, p, q)
@@ -43,7 +42,7 @@ module _ (c : ℕ) (h : Header) {f : Bool} (fl : f ≡ filledKind (h .kind)) whe
 
 -- ---- a slot's class
 module _ (l : List ℕ) (n s : ℕ) (flags : List Bool) {h : Header} {c : ℕ} {k : Class} (z : FlagAt l n s flags) (at : h ≡ header l s) (cl : c ≡ clockOf l) where
-  pub class-free : {r : Bool} → k ≡ Free → r ≡ blankHeader h → r ≡ inClass k l n s
+  pub class-free : {r : Bool} → k ≡ Free → r ≡ hasZero h → r ≡ inClass k l n s
   unfolding inClass
   class-free e q = rw (e, ← at) q
 

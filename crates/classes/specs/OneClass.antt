@@ -4,17 +4,18 @@ use mathlib.Core.Path.{_≡_, refl, _∙_}
 use mathlib.Core.Bool.{Bool, true, false, and-false}
 use mathlib.Core.Logic.{⊎-elim}
 use mathlib.Core.List.{List}
-use lib.Dec.{leb, ltb, eqb}
-use borrow.Author.Tests.{lt-ltb, le-ltb, leb-true, leb-false, eqb-true}
+use lib.Dec.{leb, ltb}
+use borrow.Author.Tests.{lt-ltb, le-ltb, leb-true, leb-false}
 use native.Mathlib.Omega.{arith}
-use Rattle.search.specs.Bools.{cases, never, refuted, and-left, and-right, flag}
+use Rattle.search.specs.Bools.{cases, never, flag}
 use Rattle.search.specs.Count.{count, count-more}
 use Rattle.reply.specs.declared.Check.the-variants.{Accepted}
 use Rattle.image.specs.declared.header.Header.{Header}
-use Rattle.image.specs.Layout.{filledKind, payloadKind, header, slotsOf, clockOf}
+use Rattle.image.specs.Layout.{hasZero, isFilled, isPayload, header, slotsOf, clockOf}
+use Rattle.image.specs.Whole.{says-whole, filled-says, zero-unfilled}
 use Rattle.survival.specs.Survivors.{kept, survivor}
-use Rattle.acceptance.specs.Accept.{blankHeader, imageCheck}
-use Rattle.acceptance.specs.Sound.{FreeOk, FilledOk, proper-cases, accepted-says}
+use Rattle.acceptance.specs.Accept.{imageCheck}
+use Rattle.acceptance.specs.Sound.{FilledOk, proper-cases, accepted-says}
 use Rattle.classes.specs.declared.Class.{Class}
 use Rattle.classes.specs.declared.Class.the-variants.{Free, Surviving, Kept, New}
 use Rattle.classes.specs.Classes.{inClass, headCount, total}
@@ -68,60 +69,49 @@ one-of {l} {n} {s} (in-new t) = record { class = New; is = t .new; only = only }
     only Kept e = never _ e (t .kept)
     only New e = refl
 
--- ---- a slot of an accepted image: its header is free, or filled within its bounds
-unkept : (c : ℕ) (h : Header) → filledKind (h .kind) ≡ false → kept c h ≡ false
+-- ---- a slot of an accepted image: its header counts as free, or is filled within its bounds
+unkept : (c : ℕ) (h : Header) → isFilled h ≡ false → kept c h ≡ false
 unfolding kept
 unkept c h e = rw e
 
-kept-is : (c : ℕ) (h : Header) → filledKind (h .kind) ≡ true → kept c h ≡ leb (h .epoch + 2) c
+kept-is : (c : ℕ) (h : Header) → isFilled h ≡ true → kept c h ≡ leb (h .epoch + 2) c
 unfolding kept
 kept-is c h e = rw e
 
-blank-filled : (c : ℕ) (h : Header) → FilledOk c h → blankHeader h ≡ false
-unfolding blankHeader
-blank-filled c h f =
-    refuted (blankHeader h)
-    (λ t. omega (arith, eqb-true (h .epoch) 0 (and-left (eqb (h .epoch) 0) _ (and-right (eqb (h .kind) 0) _ t)), f .epoch-lo))
-
-blank-free : (h : Header) → FreeOk h → blankHeader h ≡ true
-unfolding blankHeader
-blank-free h f = rw (f .kind-is, f .epoch-is, f .uid-is, f .board-is)
-
-unfilled-free : (h : Header) → FreeOk h → filledKind (h .kind) ≡ false
-unfolding filledKind
-unfilled-free h f = rw (f .kind-is)
+filled-whole : (h : Header) → isFilled h ≡ true → hasZero h ≡ false
+filled-whole h f = says-whole h (filled-says h f .whole)
 
 module _ (l : List ℕ) (n s : ℕ) where
   -- only a kept slot survives
   unkept-dies : kept (clockOf l) (header l s) ≡ false → survivor l n s ≡ false
   unfolding survivor
-  unkept-dies e = rw (e, and-false (payloadKind (header l s .kind)))
+  unkept-dies e = rw (e, and-false (isPayload (header l s)))
 
-  sorted-free : FreeOk (header l s) → Sorted l n s
+  sorted-free : hasZero (header l s) ≡ true → Sorted l n s
   unfolding inClass
-  sorted-free f =
-      let none = unfilled-free (header l s) f in
+  sorted-free z =
+      let none = zero-unfilled (header l s) z in
       let k = unkept (clockOf l) (header l s) none in
-      in-free (record { free = blank-free (header l s) f; surviving = unkept-dies k; kept = rw k; new = rw none })
+      in-free (record { free = z; surviving = unkept-dies k; kept = rw k; new = rw none })
 
   sorted-filled : FilledOk (clockOf l) (header l s) → Sorted l n s
   unfolding inClass
   sorted-filled f =
       let c = clockOf l in
       let h = header l s in
-      let blank = blank-filled c h f in
+      let whole = filled-whole h (f .filled) in
       ⊎-elim
       (λ (o : leb (h .epoch + 2) c ≡ true).
       let k : kept c h ≡ true = kept-is c h (f .filled) ∙ o in
       let old : ltb c (h .epoch + 2) ≡ false = le-ltb c (h .epoch + 2) (leb-true (h .epoch + 2) c o) in
       ⊎-elim
-      (λ (v : survivor l n s ≡ true). in-surviving (record { free = blank; surviving = v; kept = rw (k, v); new = rw (f .filled, old) }))
-      (λ (v : survivor l n s ≡ false). in-kept (record { free = blank; surviving = v; kept = rw (k, v); new = rw (f .filled, old) }))
+      (λ (v : survivor l n s ≡ true). in-surviving (record { free = whole; surviving = v; kept = rw (k, v); new = rw (f .filled, old) }))
+      (λ (v : survivor l n s ≡ false). in-kept (record { free = whole; surviving = v; kept = rw (k, v); new = rw (f .filled, old) }))
       (cases (survivor l n s)))
       (λ (o : leb (h .epoch + 2) c ≡ false).
       let k : kept c h ≡ false = kept-is c h (f .filled) ∙ o in
       let young : ltb c (h .epoch + 2) ≡ true = lt-ltb c (h .epoch + 2) (leb-false (h .epoch + 2) c o) in
-      in-new (record { free = blank; surviving = unkept-dies k; kept = rw k; new = rw (f .filled, young) }))
+      in-new (record { free = whole; surviving = unkept-dies k; kept = rw k; new = rw (f .filled, young) }))
       (cases (leb (h .epoch + 2) c))
 
 sorted : (l : List ℕ) → imageCheck l ≡ Accepted → (s : ℕ) → s < slotsOf l → Sorted l (slotsOf l) s

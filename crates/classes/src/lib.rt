@@ -39,7 +39,7 @@ fn kept_only(h: Header, c: u32, survives: bool) -> bool
 fn too_new(h: Header, c: u32) -> bool
     ensures { λ r. ⌜ r ≡ tooNew c h ⌝ }
 {
-    if image::header::filled(h.kind) {
+    if image::header::filled(h) {
         image::shape::wide(c) < image::shape::wide(h.epoch) + 2
     } else {
         false
@@ -54,7 +54,7 @@ fn in_class(img: &[u32], flags: &[bool; 1024], n: usize, s: usize, class: Class)
     let h = image::header::header_at(img, n, s);
     let c = image::shape::clock(img);
     match class {
-        Class::Free => acceptance::blank_header(h),
+        Class::Free => image::header::has_zero(h),
         Class::Surviving => flags[s],
         Class::Kept => kept_only(h, c, flags[s]),
         Class::New => too_new(h, c),

@@ -8,7 +8,7 @@ use Rattle.image.specs.declared.name.Name.{Name}
 use Rattle.crash.specs.Reference.{Jobs, jobsAt}
 use Rattle.crash.specs.Slots.{Value, State, Visible, Shows, One, Inv}
 use Rattle.crash.specs.Steps.{Start}
-use Rattle.crash.specs.OneSlot.{slotty, same-proper, old-waits, rest-underway}
+use Rattle.crash.specs.OneSlot.{slotty, proper-worded, old-waits, rest-underway}
 
 -- with no change the jobs are those of the start
 no-change : (e : ℕ) (start : Jobs) → jobsAt e start [] ≡ start
@@ -35,7 +35,7 @@ module _ {st : State} (t : Start st) where
         copied = λ _ _. a .same-head;
         waits = old-waits (a .old);
         stray = old-waits (omega arith);
-        proper-persistent = same-proper h (a .proper);
+        worded = proper-worded h (a .proper);
       }
 
   -- at every threshold from c - 2 on the same is visible

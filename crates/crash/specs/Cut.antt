@@ -8,9 +8,9 @@ use native.Mathlib.Decide.{ℕ-discrete, decLe}
 use Rattle.image.specs.declared.name.Name.{Name}
 use Rattle.image.specs.Name.{Named}
 use Rattle.crash.specs.Reference.{jobsAt}
-use Rattle.crash.specs.Slots.{Value, Slot, State, SameHead, SameLine, Live, Visible, Shows, Kin, Inv}
+use Rattle.crash.specs.Slots.{Value, Slot, State, Filled, SameHead, SameLine, Live, Visible, Shows, Kin, Inv}
 use Rattle.crash.specs.Steps.{Kept, Survives}
-use Rattle.crash.specs.OneSlot.{slotty, same-named}
+use Rattle.crash.specs.OneSlot.{slotty, proper-whole, same-named}
 use Rattle.crash.specs.Versions.{kin-cases}
 
 -- a slot that survives shows the job k with the value v
@@ -23,15 +23,18 @@ pub record CutShows (e : ℕ) (f : ℕ → Slot) (k : Name) (v : Value) : Type 0
 module _ {st : State} (i : Inv st) {e : ℕ} (c : e + 2 ≡ st .clock) where
   -- a kept header is that of the working side
   pub cut-head : (s : ℕ) → Kept e (st .slots s .persistent) → SameHead (st .slots s .persistent) (st .slots s .working)
-  cut-head s h = i .one s .copied (omega (arith, i .one s .proper-persistent .epoch-lo (h .filled))) (omega arith)
+  cut-head s h = i .one s .copied (h .whole .epoch-lo) (omega arith)
 
   -- .. and what is old enough on the working side is kept
-  settled : (s : ℕ) → Kept e (st .slots s .working) → Kept e (st .slots s .persistent)
-  settled s h = let q = i .one s .settled-head (h .filled) (omega arith) in record { filled = omega arith; old = omega arith }
+  settled : (s : ℕ) → Filled (st .slots s .working) → st .slots s .working .epoch ≤ e → Kept e (st .slots s .persistent)
+  settled s f l =
+      let q = i .one s .settled-head f (omega arith) in
+      let w = proper-whole (i .one s .proper) f in
+      record { whole = record { kind-lo = omega arith; epoch-lo = omega arith; uid-lo = omega arith; board-lo = omega arith }; old = omega arith }
 
   -- .. and what is kept is old on the working side
-  working : (s : ℕ) → Kept e (st .slots s .persistent) → Kept e (st .slots s .working)
-  working s h = let q = cut-head s h in record { filled = omega arith; old = omega arith }
+  working : (s : ℕ) → Kept e (st .slots s .persistent) → Filled (st .slots s .working) × (st .slots s .working .epoch ≤ e)
+  working s h = let q = cut-head s h in (omega arith, omega arith)
 
   -- of a uid's kept versions one is the older
   kept-cases : (m n : ℕ) → m ≢ n → Kept e (st .slots m .persistent) → Kept e (st .slots n .persistent)
@@ -39,11 +42,11 @@ module _ {st : State} (i : Inv st) {e : ℕ} (c : e + 2 ≡ st .clock) where
   kept-cases m n d p q u =
       let a = cut-head m p in
       let b = cut-head n q in
-      kin-cases (i .two) m n d (working m p .filled) (working n q .filled) (omega arith)
+      kin-cases (i .two) m n d (working m p .0) (working n q .0) (omega arith)
 
   -- what is visible at e is kept
   visible-kept : (s : ℕ) → Visible e (st .slots s) → Kept e (st .slots s .persistent)
-  visible-kept s w = settled s (record { filled = w .payload .0; old = w .begun })
+  visible-kept s w = settled s (w .payload .0) (w .begun)
 
   -- a survivor is not retired up to e: the next version would win
   lives : (s : ℕ) → Survives e (st .slots) s → Live e (st .slots s .retired)
@@ -55,7 +58,7 @@ module _ {st : State} (i : Inv st) {e : ℕ} (c : e + 2 ≡ st .clock) where
           let r : 1 ≤ st .slots s .retired = omega arith in
           let a = i .next s r in
           let b = a .holds in
-          let k = settled (a .at) (record { filled = b .filled; old = omega arith }) in
+          let k = settled (a .at) (b .filled) (omega arith) in
           let p = cut-head s (h .kept) in
           let q = cut-head (a .at) k in
           absurd (omega (arith, i .one s .retired-of r, h .wins (a .at) k (omega arith)))
@@ -85,7 +88,7 @@ module _ {st : State} (i : Inv st) {e : ℕ} (c : e + 2 ≡ st .clock) where
 
   -- a survivor's contents are those of the working side
   pub cut-line : (s : ℕ) → Survives e (st .slots) s → SameLine (st .slots s .persistent) (st .slots s .working)
-  cut-line s h = let k = working s (h .kept) in i .one s .settled-line (k .filled) (omega arith)
+  cut-line s h = let k = working s (h .kept) in i .one s .settled-line (k .0) (omega arith)
 
   -- .. and so is its name
   cut-name : (s : ℕ) → Survives e (st .slots) s → st .slots s .persistent .name ≡ st .slots s .working .name
@@ -106,7 +109,7 @@ module _ {st : State} (i : Inv st) {e : ℕ} (c : e + 2 ≡ st .clock) where
 
   -- a survivor has a name
   pub cut-named : (s : ℕ) → Survives e (st .slots) s → Named (st .slots s .persistent .name)
-  cut-named s h = rw (cut-name s h) (i .one s .named (working s (h .kept) .filled))
+  cut-named s h = rw (cut-name s h) (i .one s .named (working s (h .kept) .0))
 
   -- the survivors' names and values are what is shown at e
   holds : (k : Name) (v : Value) → CutShows e (st .slots) k v ↔ Shows (st .slots) e k v

@@ -1,94 +1,128 @@
--- A line of a slot that is stored into the persistent image keeps the invariant.
-use Prim.Native.Nat.{ℕ}
+-- Words of the working side that are copied to the persistent one keep the invariant: any of them, so a line, or what a cut leaves of it.
+use Prim.Native.Nat.{ℕ, _≤_}
 use mathlib.Core.Path.{_≡_, refl, _∙_}
 use mathlib.Core.Logic.{_⊎_, inl, inr, Iff·trans}
 use native.Mathlib.Omega.{arith}
-use Rattle.crash.specs.Table.{Put, every-put}
-use Rattle.crash.specs.Slots.{Entry, Slot, State, SameHead, SameLine, Waits, One, Underway, Inv}
+use Rattle.crash.specs.Table.{every-put}
+use Rattle.crash.specs.Slots.{Entry, Slot, State, SameHead, SameLine, Worded, Waits, One, Underway, Inv}
 use Rattle.crash.specs.Steps.{stored, moved, Head, Line}
-use Rattle.crash.specs.OneSlot.{same-proper}
+use Rattle.crash.specs.OneSlot.{proper-worded, proper-filled}
 use Rattle.crash.specs.Dressed.{Dressed, dressed-two, dressed-next, dressed-shows}
 
-module _ {x w p : Entry} where
-  -- a header of the one or the other is the one's, where these two agree
-  same-head : SameHead x w ⊎ SameHead x p → (x .epoch ≡ p .epoch → SameHead p w) → SameHead x w
-  same-head (inl q) h = q
-  same-head (inr q) h =
-      let r = h (q .epoch-is) in
-      record { kind-is = q .kind-is ∙ r .kind-is; epoch-is = q .epoch-is ∙ r .epoch-is; uid-is = q .uid-is ∙ r .uid-is; board-is = q .board-is ∙ r .board-is }
+-- each word of x's header is w's or p's, and its contents are theirs where these agree
+pub record Mixed (x w p : Entry) : Type 0 where
+  pub kind : (x .kind ≡ w .kind) ⊎ (x .kind ≡ p .kind)
+  pub epoch : (x .epoch ≡ w .epoch) ⊎ (x .epoch ≡ p .epoch)
+  pub uid : (x .uid ≡ w .uid) ⊎ (x .uid ≡ p .uid)
+  pub board : (x .name .board ≡ w .name .board) ⊎ (x .name .board ≡ p .name .board)
+  pub line : SameLine p w → SameLine x w
 
-  -- the same of contents
-  same-line : SameLine x w ⊎ SameLine x p → SameLine p w → SameLine x w
-  same-line (inl q) r = q
-  same-line (inr q) r = record { key-is = q .key-is ∙ r .key-is; value-is = q .value-is ∙ r .value-is }
+either : {x w p : ℕ} → (x ≡ w) ⊎ (x ≡ p) → p ≡ w → x ≡ w
+either (inl q) h = q
+either (inr q) h = q ∙ h
 
-  -- where both wait, so does an entry with a header of the one or the other
-  waits-head : {c : ℕ} {a : Slot} → SameHead x w ⊎ SameHead x p → Waits c w a → Waits c p a → Waits c x a
-  waits-head (inl q) h k = record { in-now = λ e. h .in-now (omega arith); in-before = λ e. h .in-before (omega arith) }
-  waits-head (inr q) h k = record { in-now = λ e. k .in-now (omega arith); in-before = λ e. k .in-before (omega arith) }
+below : {x w p top : ℕ} → (x ≡ w) ⊎ (x ≡ p) → w ≤ top → p ≤ top → x ≤ top
+below (inl q) h k = omega arith
+below (inr q) h k = omega arith
 
--- the persistent side of one slot becomes x, whose header and contents are each the working or the persistent one's
-module _ {s : ℕ} {x : Entry} {st : State} {g : ℕ → Slot} (i : Inv st) (put : Put (st .slots) g s (stored x (st .slots s)))
-    (hd : SameHead x (st .slots s .working) ⊎ SameHead x (st .slots s .persistent))
-    (ln : SameLine x (st .slots s .working) ⊎ SameLine x (st .slots s .persistent)) where
-  -- what is said of that slot
-  one : One (st .clock) (st .uid) (st .order) (stored x (st .slots s))
-  one =
-      let o = i .one s in
-      let z : Waits (st .clock) x (st .slots s) = waits-head hd (o .waits) (o .stray) in
+module _ {x w p : Entry} (m : Mixed x w p) where
+  -- where the two headers agree, so does x's
+  same-head : SameHead p w → SameHead x w
+  same-head h =
+      record { kind-is = either (m .kind) (h .kind-is); epoch-is = either (m .epoch) (h .epoch-is); uid-is = either (m .uid) (h .uid-is); board-is = either (m .board) (h .board-is) }
+
+  -- what holds of both epochs holds of x's
+  by-epoch : {P : Type 0} → (x .epoch ≡ w .epoch → P) → (x .epoch ≡ p .epoch → P) → P
+  by-epoch f g = elim (m .epoch) [ inl q ↦ f q | inr q ↦ g q ]
+
+  worded : {c : ℕ} → Worded c w → Worded c p → Worded c x
+  worded a b =
       record {
-        proper = o .proper;
-        uid-below = o .uid-below;
-        order-below = o .order-below;
-        named = o .named;
-        retired-hi = o .retired-hi;
-        retired-lo = o .retired-lo;
-        retired-of = o .retired-of;
-        anti-lo = o .anti-lo;
-        settled-head = λ f l. same-head hd (λ _. o .settled-head f l);
-        settled-line = λ f l. same-line ln (o .settled-line f l);
-        copied = λ a l. same-head hd (λ e. o .copied (omega arith) (omega arith));
-        waits = record { in-now = o .waits .in-now; in-before = o .waits .in-before };
+        kind-hi = below (m .kind) (a .kind-hi) (b .kind-hi);
+        epoch-lo = λ h. by-epoch (λ q. omega (arith, a .epoch-lo (omega arith))) (λ q. omega (arith, b .epoch-lo (omega arith)));
+        epoch-hi = below (m .epoch) (a .epoch-hi) (b .epoch-hi);
+        uid-hi = below (m .uid) (a .uid-hi) (b .uid-hi);
+        board-hi = below (m .board) (a .board-hi) (b .board-hi);
+      }
+
+  -- where both wait, so does x
+  waits : {c : ℕ} {a : Slot} → Waits c w a → Waits c p a → Waits c x a
+  waits h k =
+      record {
+        in-now = λ e. by-epoch (λ q. h .in-now (omega arith)) (λ q. k .in-now (omega arith));
+        in-before = λ e. by-epoch (λ q. h .in-before (omega arith)) (λ q. k .in-before (omega arith));
+      }
+
+module _ {a : Slot} {x : Entry} (m : Mixed x (a .working) (a .persistent)) where
+  -- what is said of one slot
+  one : {c u o : ℕ} → One c u o a → One c u o (stored x a)
+  one {c} w =
+      let z : Waits c x a = waits m (w .waits) (w .stray) in
+      record {
+        proper = w .proper;
+        uid-below = w .uid-below;
+        order-below = w .order-below;
+        named = w .named;
+        retired-hi = w .retired-hi;
+        retired-lo = w .retired-lo;
+        retired-of = w .retired-of;
+        anti-lo = w .anti-lo;
+        settled-head = λ f l. same-head m (w .settled-head f l);
+        settled-line = λ f l. m .line (w .settled-line f l);
+        copied = λ h l. same-head m (by-epoch m
+            (λ q. w .settled-head (proper-filled (w .proper) (omega arith)) (omega arith))
+            (λ q. w .copied (omega arith) (omega arith)));
+        waits = record { in-now = w .waits .in-now; in-before = w .waits .in-before };
         stray = record { in-now = z .in-now; in-before = z .in-before };
-        proper-persistent = elim hd [ inl q ↦ same-proper q (o .proper) | inr q ↦ same-proper q (o .proper-persistent) ];
+        worded = worded m (proper-worded (record { kind-is = refl; epoch-is = refl; uid-is = refl; board-is = refl }) (w .proper)) (w .worded);
       }
 
   -- .. and of it while an advance is underway
-  underway : Underway (st .clock) (st .place) s (stored x (st .slots s))
-  underway =
-      let u = i .underway s in
+  underway : {s : ℕ} (st : State) → Underway (st .clock) (st .place) s a → Underway (st .clock) (st .place) s (stored x a)
+  underway st u =
       record {
         swept = λ h. let q = u .swept h in record { retired = q .retired; anti = q .anti };
         flushed = λ h. record {
-          head = λ e. same-head hd (λ _. u .flushed h .head e);
-          line = λ e. same-line ln (u .flushed h .line e);
-          stray = λ e. same-head hd (λ q. u .flushed h .stray (omega arith));
+          head = λ e. same-head m (u .flushed h .head e);
+          line = λ e. m .line (u .flushed h .line e);
+          stray = λ e. same-head m (by-epoch m (λ q. u .flushed h .head (omega arith)) (λ q. u .flushed h .stray (omega arith)));
         };
-        half = λ a b e. same-line ln (u .half a b e);
+        half = λ a b e. m .line (u .half a b e);
       }
 
+-- a copy of any words keeps the invariant
+module _ {st : State} {g : ℕ → Slot} (i : Inv st) (all : (s : ℕ) → g s ≡ stored (g s .persistent) (st .slots s))
+    (mixed : (s : ℕ) → Mixed (g s .persistent) (st .slots s .working) (st .slots s .persistent)) where
   -- the working sides stay
-  kept : (m : ℕ) → Dressed (st .slots m) (g m)
-  kept = every-put put (λ m. Dressed (st .slots m)) (record { entry = x; now = st .slots s .now; before = st .slots s .before; is = refl })
-      (λ m _. record { entry = st .slots m .persistent; now = st .slots m .now; before = st .slots m .before; is = refl })
+  kept : (s : ℕ) → Dressed (st .slots s) (g s)
+  kept s = record { entry = g s .persistent; now = st .slots s .now; before = st .slots s .before; is = all s }
 
-  -- such a store keeps the invariant
-  stored-inv : Inv (moved st g (st .place))
-  stored-inv = record {
+  pub mixed-inv : Inv (moved st g (st .place))
+  mixed-inv = record {
     clock-lo = i .clock-lo;
     uid-lo = i .uid-lo;
-    one = every-put put (λ m. One (st .clock) (st .uid) (st .order)) one (λ m _. i .one m);
+    one = λ s. rw (all s) (one (mixed s) (i .one s));
     two = dressed-two kept (i .two);
     next = dressed-next kept (i .next);
-    underway = every-put put (Underway (st .clock) (st .place)) underway (λ m _. i .underway m);
+    underway = λ s. rw (all s) (underway (mixed s) st (i .underway s));
     late = i .late;
     shown = λ e lo hi k v. Iff·trans (dressed-shows kept e k v) (i .shown e lo hi k v);
   }
 
--- the header's line
-pub head-inv : {s : ℕ} {st : State} {g : ℕ → Slot} → Inv st → Head s st g → Inv (moved st g (st .place))
-head-inv i t = stored-inv i (t .put) (inl (search)) (inr (search))
+-- nothing is copied
+unmixed : {x w : Entry} → Mixed x w x
+unmixed = record { kind = inr refl; epoch = inr refl; uid = inr refl; board = inr refl; line = λ h. h }
 
--- the contents' lines
+-- a header
+pub head-inv : {s : ℕ} {st : State} {g : ℕ → Slot} → Inv st → Head s st g → Inv (moved st g (st .place))
+head-inv {s} {st} {g} i t =
+    mixed-inv i (every-put (t .put) (λ m a. a ≡ stored (a .persistent) (st .slots m)) refl (λ m _. refl))
+    (every-put (t .put) (λ m a. Mixed (a .persistent) (st .slots m .working) (st .slots m .persistent))
+    (record { kind = inl refl; epoch = inl refl; uid = inl refl; board = inl refl; line = λ h. record { key-is = h .key-is; value-is = h .value-is } }) (λ m _. unmixed))
+
+-- contents
 pub line-inv : {s : ℕ} {st : State} {g : ℕ → Slot} → Inv st → Line s st g → Inv (moved st g (st .place))
-line-inv i t = stored-inv i (t .put) (inr (search)) (inl (search))
+line-inv {s} {st} {g} i t =
+    mixed-inv i (every-put (t .put) (λ m a. a ≡ stored (a .persistent) (st .slots m)) refl (λ m _. refl))
+    (every-put (t .put) (λ m a. Mixed (a .persistent) (st .slots m .working) (st .slots m .persistent))
+    (record { kind = inr refl; epoch = inr refl; uid = inr refl; board = inr refl; line = λ h. record { key-is = refl; value-is = refl } }) (λ m _. unmixed))

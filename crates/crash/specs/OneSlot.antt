@@ -5,7 +5,7 @@ use mathlib.Core.Logic.{_≢_, inl, inr}
 use native.Mathlib.Omega.{arith}
 use native.Mathlib.Decide.{ℕ-discrete}
 use Rattle.image.specs.Name.{names-meet}
-use Rattle.crash.specs.Slots.{Entry, Slot, Proper, SameHead, SameLine, Live, Waits, Flushed, Underway}
+use Rattle.crash.specs.Slots.{Entry, Slot, Filled, Proper, Worded, Whole, SameHead, SameLine, Live, Waits, Flushed, Underway}
 use Rattle.crash.specs.Steps.{atRest}
 
 -- `Live` as a linear statement, so that omega reads it and proves it
@@ -20,9 +20,24 @@ num-live e r h = elim (ℕ-discrete r 0) [ yes z ↦ inl z | no z ↦ inr (omega
 -- for omega
 pub ruleset slotty = (arith, live-num, num-live)
 
--- an entry with the header of a proper one is proper
-pub same-proper : {c : ℕ} {x y : Entry} → SameHead x y → Proper c y → Proper c x
-same-proper q p = rw (q .kind-is, q .epoch-is, q .uid-is, q .board-is) (search)
+-- an entry with an epoch is filled
+pub proper-filled : {c : ℕ} {x : Entry} → Proper c x → 1 ≤ x .epoch → Filled x
+proper-filled {c} {x} p h = elim (ℕ-discrete (x .kind) 0) [ yes z ↦ absurd (omega (arith, p .free-epoch z)) | no z ↦ omega arith ]
+
+-- an entry with the header of a proper one has each word within its bounds
+pub proper-worded : {c : ℕ} {x y : Entry} → SameHead x y → Proper c y → Worded c x
+proper-worded {c} {x} {y} q p =
+    record {
+      kind-hi = omega (arith, p .kind-hi);
+      epoch-lo = λ h. rw (q .epoch-is) (p .epoch-lo (proper-filled p (omega arith)));
+      epoch-hi = omega (arith, p .epoch-hi);
+      uid-hi = omega (arith, p .uid-hi);
+      board-hi = omega (arith, p .board-hi);
+    }
+
+-- .. and of one that is filled none is 0
+pub proper-whole : {c : ℕ} {x : Entry} → Proper c x → Filled x → Whole x
+proper-whole p f = record { kind-lo = f; epoch-lo = omega (arith, p .epoch-lo f); uid-lo = p .uid-lo f; board-lo = p .board-lo f }
 
 -- a header and contents make the name
 pub same-named : {x y : Entry} → SameHead x y → SameLine x y → x .name ≡ y .name

@@ -38,7 +38,7 @@ module _ {s : ℕ} {st : State} {g : ℕ → Slot} (i : Inv st) (t : Reclaim s s
       copied = λ h. absurd (omega arith);
       waits = old-waits (i .clock-lo);
       stray = old-waits (i .clock-lo);
-      proper-persistent = omega arith;
+      worded = record { kind-hi = omega arith; epoch-lo = λ h. absurd (omega arith); epoch-hi = omega arith; uid-hi = omega arith; board-hi = omega arith };
     }) (λ m _. i .one m);
     two = pairwise-put (t .put) Two (λ m q. (
       record { kin = λ a b u l. absurd (omega arith); disjoint = λ e a b k. omega arith },

@@ -66,6 +66,21 @@ pub record Proper (c : ℕ) (x : Entry) : Type 0 where
   pub board-lo : 1 ≤ x .kind → jobsBoard ≤ x .name .board
   pub board-hi : x .name .board ≤ queueBoard
 
+-- each word of a header by itself: 0, or within its bounds
+pub record Worded (c : ℕ) (x : Entry) : Type 0 where
+  pub kind-hi : x .kind ≤ 3
+  pub epoch-lo : 1 ≤ x .epoch → 2 ≤ x .epoch
+  pub epoch-hi : x .epoch ≤ c
+  pub uid-hi : x .uid ≤ mostNumber
+  pub board-hi : x .name .board ≤ queueBoard
+
+-- no word of its header is 0
+pub record Whole (x : Entry) : Type 0 where
+  pub kind-lo : 1 ≤ x .kind
+  pub epoch-lo : 1 ≤ x .epoch
+  pub uid-lo : 1 ≤ x .uid
+  pub board-lo : 1 ≤ x .name .board
+
 -- the board of a name stands in the header, its key in the contents
 pub record SameHead (x y : Entry) : Type 0 where
   pub kind-is : x .kind ≡ y .kind
@@ -123,7 +138,7 @@ pub record One (c u o : ℕ) (a : Slot) : Type 0 where
   pub waits : Waits c (a .working) a
   pub stray : Waits c (a .persistent) a
   -- J6
-  pub proper-persistent : Proper c (a .persistent)
+  pub worded : Worded c (a .persistent)
 
 -- ---- of one slot, by its number, while an advance is underway
 -- K1: nothing is left to reclaim

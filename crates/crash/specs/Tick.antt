@@ -7,7 +7,7 @@ use native.Mathlib.Omega.{arith}
 use native.Mathlib.Decide.{decLe}
 use Rattle.image.specs.declared.name.Name.{Name}
 use Rattle.crash.specs.Reference.{jobsAt}
-use Rattle.crash.specs.Slots.{Value, Entry, Slot, State, Proper, Visible, Shows, One, Inv}
+use Rattle.crash.specs.Slots.{Value, Entry, Slot, State, Proper, Worded, Visible, Shows, One, Inv}
 use Rattle.crash.specs.Steps.{ticked, tickedState, Tick}
 use Rattle.crash.specs.Laws.{jobs-agree}
 use Rattle.crash.specs.OneSlot.{slotty, rest-underway}
@@ -16,6 +16,9 @@ use Rattle.crash.specs.Dressed.{Dressed, dressed-two, dressed-next, dres
 -- a proper entry stays proper
 proper-suc : {c : ℕ} {x : Entry} → Proper c x → Proper (suc c) x
 proper-suc p = search arith
+
+worded-suc : {c : ℕ} {x : Entry} → Worded c x → Worded (suc c) x
+worded-suc p = record { kind-hi = p .kind-hi; epoch-lo = p .epoch-lo; epoch-hi = omega (arith, p .epoch-hi); uid-hi = p .uid-hi; board-hi = p .board-hi }
 
 -- what is old at the new clock was old, or of c - 1
 old-suc : {c : ℕ} {P : Type 0} (x : ℕ) → (x + 2 ≤ c → P) → (x + 1 ≡ c → P) → x + 2 ≤ suc c → P
@@ -43,8 +46,8 @@ module _ {st : State} {g : ℕ → Slot} (i : Inv st) (t : Tick st g) where
         settled-line = λ f. old-suc _ (o .settled-line f) (t .flushed s .line);
         copied = λ f. old-suc _ (o .copied f) (t .flushed s .stray);
         waits = record { in-now = λ h. absurd (omega (arith, o .proper .epoch-hi)); in-before = λ h. o .waits .in-now (omega arith) };
-        stray = record { in-now = λ h. absurd (omega (arith, o .proper-persistent .epoch-hi)); in-before = λ h. o .stray .in-now (omega arith) };
-        proper-persistent = proper-suc (o .proper-persistent);
+        stray = record { in-now = λ h. absurd (omega (arith, o .worded .epoch-hi)); in-before = λ h. o .stray .in-now (omega arith) };
+        worded = worded-suc (o .worded);
       }
 
   -- at the new clock all is visible as at the old one

@@ -4,7 +4,6 @@ use mathlib.Core.Path.{_≡_, ap, sym, _∙_}
 use mathlib.Core.Logic.{_≢_, _⊎_, inl, inr, _↔_}
 use mathlib.Core.Option.{Option, none, some}
 use native.Mathlib.Omega.{arith}
-use native.Mathlib.Decide.{ℕ-discrete}
 use Rattle.image.specs.Layout.{queueBoard}
 use Rattle.image.specs.declared.name.Name.{Name}
 use Rattle.image.specs.Name.{Named}
@@ -12,11 +11,7 @@ use Rattle.crash.specs.Table.{Put, Any, every-put, pairwise-put, any-new
 use Rattle.crash.specs.Laws.{late-snoc, shown-step}
 use Rattle.crash.specs.Slots.{Value, Entry, Slot, State, Filled, Payload, Proper, Visible, Sees, Shows, One, Underway, Kin, Two, Next, Inv}
 use Rattle.crash.specs.Steps.{after, Operation, Joins}
-use Rattle.crash.specs.OneSlot.{slotty}
-
--- an entry with an epoch is filled
-pub proper-filled : {c : ℕ} {x : Entry} → Proper c x → 1 ≤ x .epoch → Filled x
-proper-filled {c} {x} p h = elim (ℕ-discrete (x .kind) 0) [ yes z ↦ absurd (omega (arith, p .free-epoch z)) | no z ↦ omega arith ]
+use Rattle.crash.specs.OneSlot.{slotty, proper-filled}
 
 -- free, or of this epoch and job
 pub record Own (e : ℕ) (k : Name) (x : Entry) : Type 0 where
@@ -105,7 +100,7 @@ module _ {e s uid order : ℕ} {k : Name} {v : Option Value} {x : Entry} {retire
           in-before = λ h. t .joins .joins-before (own-before (t .own) (t .proper) h);
         };
         stray = record { in-now = λ h. omega (arith, w .stray .in-now h); in-before = λ h. omega (arith, w .stray .in-before h) };
-        proper-persistent = w .proper-persistent;
+        worded = w .worded;
       }
 
   -- .. by its number: an operation of c - 1 finds no write-back underway

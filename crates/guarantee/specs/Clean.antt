@@ -2,20 +2,22 @@
 -- row and the image's own jobs.
 use Prim.Native.Nat.{ℕ, _+_, _-_, _≤_, _<_}
 use mathlib.Core.Path.{_≡_, refl, sym, _∙_}
-use mathlib.Core.Bool.{true}
-use mathlib.Core.Logic.{_≢_, inl, _↔_, Iff·trans}
+use mathlib.Core.Bool.{true, false}
+use mathlib.Core.Logic.{_≢_, inl, ⊎-elim, _↔_, Iff·trans}
 use mathlib.Core.List.{List, [], List·Memᴰ·not-nil}
 use lib.ListN.{length}
 use lib.Dec.{leb}
-use borrow.Author.Tests.{eq-eqb, leb-true}
+use borrow.Author.Tests.{eq-eqb, ne-eqb, leb-true}
 use native.Mathlib.Omega.{arith}
 use native.Mathlib.Decide.{decLt}
-use Rattle.search.specs.Bools.{never, and-left, and-right, and-both}
+use Rattle.search.specs.Bools.{cases, never, and-left, and-right, and-both}
 use Rattle.search.specs.Some.{some-at}
 use Rattle.reply.specs.declared.Check.the-variants.{Accepted}
-use Rattle.image.specs.Layout.{queueBoard, filledKind, payloadKind, header, keyAt, contents, valueAt, slotsOf, widthOf, clockOf, freeHeader}
+use Rattle.image.specs.Layout.{queueBoard, isBlank, hasZero, isFilled, isPayload, header, keyAt, contents, valueAt, slotsOf, widthOf, clockOf, freeHeader}
+use Rattle.image.specs.declared.header.Header.{Header}
 use Rattle.image.specs.declared.name.Name.{Name}
 use Rattle.image.specs.Name.{nameAt}
+use Rattle.image.specs.Whole.{payload-filled}
 use Rattle.image.specs.Laws.{key-contents, name-contents, value-contents}
 use Rattle.transient.specs.declared.sizes.Sizes.{Sizes}
 use Rattle.transient.specs.Layout.{threadsOf, threadsOk, note, nextUidAt, nextOrderAt, phaseAt, placeAt, openEpoch, retiredIn, blank}
@@ -23,7 +25,7 @@ use Rattle.transient.specs.Store.{Store, store, tableOf, sizesOf}
 use Rattle.transient.specs.Requires.{Notes}
 use Rattle.transient.specs.Laws.{threads-head, blank-length, blank-uid, blank-order, blank-phase, blank-open, blank-retired}
 use Rattle.survival.specs.Survivors.{kept, survivor, survivesOn}
-use Rattle.acceptance.specs.Accept.{blankHeader, proper, versionBelow, imageCheck}
+use Rattle.acceptance.specs.Accept.{proper, versionBelow, imageCheck}
 use Rattle.acceptance.specs.Requires.{sameVersion}
 use Rattle.acceptance.specs.Sound.{Accepts, accepted-says}
 use Rattle.recovery.specs.Steps.{survivor-named, survivors-apart}
@@ -34,7 +36,7 @@ use Rattle.crash.specs.Fifo.{fifo-none}
 use Rattle.guarantee.specs.Promise.{jobsOf}
 use Rattle.guarantee.specs.View.{entryOf, slotOf, noSlot, view, progress, view-in, view-out}
 use Rattle.guarantee.specs.Good.{stateOf, Image, Good, startOf}
-use Rattle.guarantee.specs.Says.{says-filled, proper-says}
+use Rattle.guarantee.specs.Says.{blank-proper, filled-says-proper}
 use Rattle.guarantee.specs.Surviving.{survives-at}
 use Rattle.guarantee.specs.JobsOf.{Survivor, jobs-of}
 
@@ -45,7 +47,7 @@ Begins st = Good (sizesOf (tableOf st)) (jobsOf (st .persistent)) st (startOf st
 -- the notes have nothing open, retired or underway
 pub record Clean (l tr : List ℕ) : Type 0 where
   pub accepted : imageCheck l ≡ Accepted
-  pub just : (s : ℕ) → s < slotsOf l → filledKind (header l s .kind) ≡ true → survivor l (slotsOf l) s ≡ true
+  pub just : (s : ℕ) → s < slotsOf l → isBlank (header l s) ≡ false → survivor l (slotsOf l) s ≡ true
   pub uid-lo : 1 ≤ note nextUidAt tr
   pub uids : (s : ℕ) → s < slotsOf l → survivor l (slotsOf l) s ≡ true → header l s .uid < note nextUidAt tr
   pub orders : (s : ℕ) → s < slotsOf l → survivesOn l (slotsOf l) queueBoard s ≡ true → keyAt l (slotsOf l) (widthOf l) s < note nextOrderAt tr
@@ -56,7 +58,7 @@ pub record Clean (l tr : List ℕ) : Type 0 where
 
 -- blank notes are such, with a next uid and a next order number above the survivors'
 pub blank-clean : (l : List ℕ) (len n u x : ℕ) → imageCheck l ≡ Accepted
-    → ((s : ℕ) → s < slotsOf l → filledKind (header l s .kind) ≡ true → survivor l (slotsOf l) s ≡ true)
+    → ((s : ℕ) → s < slotsOf l → isBlank (header l s) ≡ false → survivor l (slotsOf l) s ≡ true)
     → 1 ≤ u → ((s : ℕ) → s < slotsOf l → survivor l (slotsOf l) s ≡ true → header l s .uid < u)
     → ((s : ℕ) → s < slotsOf l → survivesOn l (slotsOf l) queueBoard s ≡ true → keyAt l (slotsOf l) (widthOf l) s < x)
     → threadsOk len (slotsOf l) ≡ true → Clean l (blank len n u x)
@@ -86,16 +88,30 @@ version-once l ok s t h b k x u e =
 -- a survivor is kept
 pub survivor-kept : (l : List ℕ) (n s : ℕ) → survivor l n s ≡ true → kept (clockOf l) (header l s) ≡ true
 unfolding survivor
-survivor-kept l n s v = and-left (kept (clockOf l) (header l s)) _ (and-right (payloadKind (header l s .kind)) _ v)
+survivor-kept l n s v = and-left (kept (clockOf l) (header l s)) _ (and-right (isPayload (header l s)) _ v)
 
 -- a survivor of a board is a survivor
 pub on-survives : (l : List ℕ) (n board s : ℕ) → survivesOn l n board s ≡ true → survivor l n s ≡ true
 unfolding survivesOn
 on-survives l n board s v = and-left (survivor l n s) _ v
 
+-- .. and so filled
+survivor-filled : (l : List ℕ) (n s : ℕ) → survivor l n s ≡ true → isFilled (header l s) ≡ true
+unfolding survivor
+survivor-filled l n s v = payload-filled (header l s) (and-left (isPayload (header l s)) _ v)
+
+-- what has a kind is not four zeros
+kind-not-blank : (h : Header) → 1 ≤ h .kind → isBlank h ≡ false
+unfolding isBlank
+kind-not-blank h k = rw (ne-eqb (h .kind) 0 (λ q. omega arith))
+
+pub free-blank : isBlank freeHeader ≡ true
+unfolding isBlank
+free-blank = refl
+
 -- a free header is proper
 pub free-proper : (c : ℕ) → proper c freeHeader ≡ true
-unfolding proper blankHeader
+unfolding proper hasZero
 free-proper c = refl
 
 module _ {l tr : List ℕ} (z : Clean l tr) where
@@ -122,7 +138,12 @@ module _ {l tr : List ℕ} (z : Clean l tr) where
   ok = accepted-says l (z .accepted)
 
   proper-at : (s : ℕ) → s < n → Proper c (entryOf (header l s) (contents l n w s))
-  proper-at s h = proper-says c (header l s) (contents l n w s) (ok .sound .all-proper s h)
+  proper-at s h =
+      ⊎-elim
+      (λ (b : isBlank (header l s) ≡ true). blank-proper c (header l s) (contents l n w s) b)
+      (λ (b : isBlank (header l s) ≡ false).
+      filled-says-proper c (header l s) (contents l n w s) (survivor-filled l n s (z .just s h b)) (ok .sound .all-proper s h))
+      (cases (isBlank (header l s)))
 
   some-width : 1 ≤ w
   some-width = omega (arith, ok .sized .sizes .width-lo)
@@ -148,7 +169,7 @@ module _ {l tr : List ℕ} (z : Clean l tr) where
   filled-lives : (s : ℕ) → Filled (slots s .working) → Lives s
   filled-lives s f = elim (decLt s n) [
     | yes h ↦
-        let v = z .just s h (says-filled (header l s .kind) (rw (is-at s h) at f) (proper-at s h .kind-hi)) in
+        let v = z .just s h (kind-not-blank (header l s) (rw (is-at s h) at f)) in
         record { below = h; survives = v; wins = wins-at s h v }
     | no h ↦ let q : 1 ≤ 0 = rw (view-out st sz c s (omega arith)) at f in absurd (omega arith)
   ]
@@ -198,7 +219,7 @@ module _ {l tr : List ℕ} (z : Clean l tr) where
       record {
         same-head = record { kind-is = refl; epoch-is = refl; uid-is = refl; board-is = refl };
         same-line = record { key-is = refl; value-is = refl };
-        proper = proper-says c freeHeader [] (free-proper c);
+        proper = blank-proper c freeHeader [] free-blank;
         payload = omega arith;
         old = omega (arith, ok .clock-lo);
         uid-below = omega (arith, z .uid-lo);
@@ -247,7 +268,7 @@ module _ {l tr : List ℕ} (z : Clean l tr) where
         },
     λ j. let h = j .below in
         let o = old-at (j .at) h in
-        let x = wins-at (j .at) h (j .survives) .kept .filled in
+        let x = wins-at (j .at) h (j .survives) .kept .whole .kind-lo in
         record {
           at = j .at;
           holds = record {

@@ -3,7 +3,7 @@ use Prim.Native.Nat.{ℕ, _+_, _-_, _≤_, _<_}
 use mathlib.Core.Path.{_≡_, sym, ap, _∙_}
 use mathlib.Core.Bool.{true, false}
 use mathlib.Core.Logic.{_≢_, _↔_, Iff·trans}
-use mathlib.Core.List.{List}
+use mathlib.Core.List.{List, List·Memᴰ}
 use lib.Dec.{eqb}
 use borrow.Author.Tests.{eqb-true}
 use native.Mathlib.Omega.{arith}
@@ -22,18 +22,26 @@ use Rattle.acceptance.specs.Requires.{nameless, sameVersion}
 use Rattle.acceptance.specs.Sound.{Sound, says-accepted}
 use Rattle.recovery.specs.Requires.{finished}
 use Rattle.recovery.specs.Steps.{survivors-apart}
-use Rattle.recovery.specs.Completes.{Rebuilt, recovery-completes, recovery-rebuilds}
-use Rattle.crash.specs.Reference.{Jobs, jobsAt}
-use Rattle.crash.specs.Slots.{Value, Slot, Proper}
+use Rattle.recovery.specs.Completes.{Rebuilt, recovery-bound, recovery-completes, recovery-rebuilds}
+use Rattle.crash.specs.Reference.{Jobs, jobsAt, Fifo}
+use Rattle.crash.specs.Slots.{Value, Slot, Worded}
 use Rattle.crash.specs.Steps.{Kept, Survives}
 use Rattle.crash.specs.Cut.{CutShows, cut-versions, cut-names, cut-named, cut-jobs}
 use Rattle.guarantee.specs.Trace.{Plain}
 use Rattle.guarantee.specs.Promise.{jobsOf, Holds, Promise}
 use Rattle.guarantee.specs.View.{entryOf, view, view-in}
 use Rattle.guarantee.specs.Good.{Good}
-use Rattle.guarantee.specs.Says.{says-proper}
+use Rattle.guarantee.specs.Says.{worded-proper}
 use Rattle.guarantee.specs.Surviving.{kept-at, at-survives, survives-at}
 use Rattle.guarantee.specs.JobsOf.{Survivor, option-same, jobs-of, same-jobs}
+
+-- recovery accepts the image, which has the reference map's jobs at the clock less 2
+pub record Cuts (start : Jobs) (l : List ℕ) (p : Plain) : Type 0 where
+  pub accepted : imageCheck l ≡ Accepted
+  pub clock : clockOf l ≡ p .clock
+  pub jobs : (k : Name) → jobsOf l k ≡ jobsAt (p .clock - 2) start (p .row) k
+  pub fifo : Fifo (p .clock - 2) start (p .row)
+  pub durable : (e : ℕ) → List·Memᴰ e (p .durable) → e + 2 ≤ p .clock
 
 -- where recovery is done, working is a copy
 rebuilt-copy : {l : List ℕ} {words : ℕ} {st : Store} → Rebuilt l words st → st .working ≡ st .persistent
@@ -71,15 +79,15 @@ module _ {sz : Sizes} {start : Jobs} {st : Store} {p : Plain} (g : Good sz start
   value-at : (s : ℕ) → s < sz .n → slots s .persistent .value ≡ valueAt image (sz .n) (sz .w) s
   value-at s h = rw (is-at s h) (sym (value-contents image (sz .n) (sz .w) s some-width))
 
-  proper-at : (s : ℕ) → s < sz .n → Proper (p .clock) (entryOf (header image s) (contents image (sz .n) (sz .w) s))
-  proper-at s h = rw (is-at s h) at (g .inv .one s .proper-persistent)
+  worded-at : (s : ℕ) → s < sz .n → Worded (p .clock) (entryOf (header image s) (contents image (sz .n) (sz .w) s))
+  worded-at s h = rw (is-at s h) at (g .inv .one s .worded)
 
   -- kept slots and survivors of the image are those of the table
   kept-here : (s : ℕ) → s < sz .n → kept (clockOf image) (header image s) ≡ true → Kept e (slots s .persistent)
   kept-here = kept-at st sz (p .clock) e cut-image
 
   survives-here : (s : ℕ) → s < sz .n → survivor image (sz .n) s ≡ true → Survives e slots s
-  survives-here = survives-at st sz (p .clock) e cut-image (λ m h. proper-at m h .kind-hi)
+  survives-here = survives-at st sz (p .clock) e cut-image (λ m h. worded-at m h .kind-hi)
 
   -- every survivor has a name
   cut-nameless : (s : ℕ) → s < sz .n → nameless image (sz .n) (sz .w) s ≡ false
@@ -124,7 +132,7 @@ module _ {sz : Sizes} {start : Jobs} {st : Store} {p : Plain} (g : Good sz start
       let i = g .persistent in
       let sound : Sound image (sz .n) (sz .w) =
       record {
-        all-proper = λ s h. rw (i .clock-is) (says-proper (p .clock) (header image s) (contents image (sz .n) (sz .w) s) (proper-at s h));
+        all-proper = λ s h. rw (i .clock-is) (worded-proper (p .clock) (header image s) (contents image (sz .n) (sz .w) s) (worded-at s h));
         named = cut-nameless;
         versions = cut-version;
         names = cut-name;
@@ -164,18 +172,23 @@ module _ {sz : Sizes} {start : Jobs} {st : Store} {p : Plain} (g : Good sz start
       option-same (jobsOf image k) (jobsAt e start (p .row) k)
       (λ v. Iff·trans (jobs-of k v cut-accepted (i .slots-is) (i .width-is)) (Iff·trans (cut-shown k v) (cut-jobs (g .inv) cut-clock k v)))
 
-  -- .. and so are those of what recovery leaves
-  rebuilt-holds : {words : ℕ} {done : Store} → Rebuilt image words done → Holds (done .persistent) (jobsAt e start (p .row))
-  rebuilt-holds r = record { same = λ k. same-jobs (r .same) k ∙ cut-map k; once = survivors-apart _ (r .accepted) }
+  -- so a cut may fall here
+  pub good-cuts : Cuts start (st .persistent) p
+  good-cuts = record { accepted = cut-accepted; clock = g .persistent .clock-is; jobs = cut-map; fifo = g .fifo (p .clock - 2); durable = g .past .durable-hi }
 
-  -- demand 3 at this moment
-  pub cut-promise : Promise start (record { store = st; plain = p })
+-- ---- demand 3 of such an image
+module _ {start : Jobs} {l : List ℕ} {p : Plain} (c : Cuts start l p) where
+  rebuilt-holds : {words : ℕ} {done : Store} → Rebuilt l words done → Holds (done .persistent) (jobsAt (p .clock - 2) start (p .row))
+  rebuilt-holds r = record { same = λ k. same-jobs (r .same) k ∙ c .jobs k; once = survivors-apart _ (r .accepted) }
+
+  pub cut-promise : Promise start l p
   cut-promise =
       record {
-        clock = g .persistent .clock-is;
-        completes = recovery-completes image cut-accepted;
-        persistent = λ any c. rebuilt-holds (recovery-rebuilds image cut-accepted any c);
-        working = λ any c. let r = recovery-rebuilds image cut-accepted any c in rw (rebuilt-copy r) (rebuilt-holds r);
-        fifo = g .fifo (p .clock - 2);
-        durable = g .past .durable-hi;
+        clock = c .clock;
+        at-most = λ r. recovery-bound (c .accepted) r;
+        completes = λ r. recovery-completes (c .accepted) r;
+        persistent = λ r any d. rebuilt-holds (recovery-rebuilds (c .accepted) r any d);
+        working = λ r any d. let b = recovery-rebuilds (c .accepted) r any d in rw (rebuilt-copy b) (rebuilt-holds b);
+        fifo = c .fifo;
+        durable = c .durable;
       }

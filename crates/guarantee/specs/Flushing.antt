@@ -1,46 +1,37 @@
--- Lines written back: the contents and then the header of each slot that waits, by advance; any line, by the memory.
+-- Lines written back by advance: the contents and then the header of each slot that waits.
 use Prim.Native.Nat.{ℕ, _+_, _-_, _≤_, _<_}
 use mathlib.Core.Path.{_≡_, refl}
-use mathlib.Core.Bool.{Bool, true, false, _&&_, _||_}
-use mathlib.Core.Logic.{⊎-elim}
+use mathlib.Core.Bool.{Bool, false, _&&_}
 use mathlib.Core.List.{List}
-use lib.Dec.{leb, ltb, eqb}
-use borrow.Author.Tests.{leb-false, le-leb}
+use lib.Dec.{leb}
+use borrow.Author.Tests.{le-leb}
 use native.Mathlib.Omega.{arith}
-use Rattle.search.specs.Bools.{cases, never, refuted, and-both, or-left}
+use Rattle.search.specs.Bools.{never, refuted, and-both}
 use Rattle.search.specs.First.{found-first, found-nothing, whereFound}
 use Rattle.search.specs.declared.Found.{Found}
 use Rattle.search.specs.declared.Found.the-variants.{At, Nothing}
-use Rattle.reply.specs.declared.Check.{Check}
-use Rattle.reply.specs.declared.Check.the-variants.{Accepted, Refused}
-use Rattle.reply.specs.declared.Refusal.the-variants.{NoLine}
-use Rattle.reply.specs.Refusals.{refuse}
 use Rattle.image.specs.Layout.{header, contents}
 use Rattle.image.specs.Line.{storeLine}
 use Rattle.image.specs.Requires.{heldHeader, heldContents, slot}
 use Rattle.image.specs.Laws.{length-contents}
 use Rattle.transient.specs.declared.sizes.Sizes.{Sizes}
 use Rattle.transient.specs.Layout.{retiredIn, isWaiting}
-use Rattle.transient.specs.Store.{Store, store, Outcome, outcome, afterCheck}
-use Rattle.transient.specs.Entry.{entryCheck}
+use Rattle.transient.specs.Store.{Store, store}
 use Rattle.transient.specs.Laws.{waiting-again}
 use Rattle.step.specs.Step.{ticking, headerNext, contentsNext, clockNext, contentsFlushed, headerFlushed, flushFrom, passing}
 use Rattle.step.specs.Stages.{waitingFrom}
-use Rattle.write_back.specs.WriteBack.{writeBack}
-use Rattle.write_back.specs.Stages.{heldLine, writeBackSized, write-back-is}
 use Rattle.crash.specs.Table.{Put}
 use Rattle.crash.specs.Reference.{Jobs}
-use Rattle.crash.specs.Slots.{Slot, SameHead, SameLine, Inv}
+use Rattle.crash.specs.Slots.{Slot, SameHead, SameLine}
 use Rattle.crash.specs.Steps.{headed, stored}
 use Rattle.crash.specs.Lines.{head-inv, line-inv}
 use Rattle.crash.specs.Places.{passes-inv, half-inv, whole-inv}
 use Rattle.guarantee.specs.Trace.{Plain}
 use Rattle.guarantee.specs.View.{view, view-in}
-use Rattle.guarantee.specs.Good.{stateOf, Image, Good}
+use Rattle.guarantee.specs.Good.{Image, Good}
 use Rattle.guarantee.specs.Images.{Wrote, wrote-image, header-wrote, contents-wrote, unwrote}
 use Rattle.guarantee.specs.Frame.{flag-off}
-use Rattle.guarantee.specs.Changing.{sizes-is}
-use Rattle.guarantee.specs.Stepping.{flushedTo, halfAt, progress-header, passing-flushed, Noted, noted-none, noted-place, step-put, Reached, Ready, went-good}
+use Rattle.guarantee.specs.Stepping.{flushedTo, halfAt, progress-header, passing-flushed, Noted, noted-place, step-put, Reached, Ready, went-good}
 use Rattle.guarantee.specs.Ticking.{Owed, tick-good}
 
 -- ---- a line of slot s
@@ -86,42 +77,6 @@ module _ {sz : Sizes} {start : Jobs} {st : Store} {p : Plain} (g : Good sz start
 
     head-same : SameHead (headered s .persistent) (headered s .working)
     head-same = rw (head-put .here) (record { kind-is = refl; epoch-is = refl; uid-is = refl; board-is = refl })
-
--- ---- by the memory
-module _ {sz : Sizes} {start : Jobs} {st : Store} {p : Plain} (slot code : ℕ) (g : Good sz start st p) where
-  abbrev with : List ℕ → Store
-  with l = store (st .working) l (st .transient)
-
-  -- only the persistent image changes
-  with-good : {l : List ℕ} → Image sz (p .clock) l → Inv (stateOf sz start (with l) p) → Good sz start (with l) p
-  with-good a i = record { clock-hi = g .clock-hi; working = g .working; persistent = a; notes = g .notes; opens = g .opens; past = g .past; inv = i; fifo = g .fifo }
-
-  -- one of the two lines of a slot
-  copied-good : slot < sz .n → Good sz start (with (storeLine (st .persistent) (heldLine sz (st .working) slot code))) p
-  copied-good k =
-      ⊎-elim
-      (λ (e : eqb code 0 ≡ true). rw e (with-good (line-image g k) (line-inv (g .inv) (record { put = line-put g k (st .transient) noted-none }))))
-      (λ (e : eqb code 0 ≡ false). rw e (with-good (head-image g k) (head-inv (g .inv) (record { put = head-put g k (st .transient) noted-none }))))
-      (cases (eqb code 0))
-
-  abbrev next : Outcome Check
-  next = outcome Accepted (st .working) (storeLine (st .persistent) (heldLine sz (st .working) slot code)) (st .transient)
-
-  -- 16
-  copies-good : Good sz start (writeBackSized slot code sz st .store) p
-  unfolding writeBackSized
-  copies-good = go (leb (sz .n) slot || ltb 1 code) refl
-    where
-      go : (b : Bool) → leb (sz .n) slot || ltb 1 code ≡ b → Good sz start (afterCheck (refuse b NoLine Accepted) Refused st next .store) p
-      go true e = g
-      go false e = copied-good (leb-false (sz .n) slot (or-left (leb (sz .n) slot) _ e))
-
-  pub write-back-good : Good sz start (writeBack st slot code .store) p
-  write-back-good = rw (write-back-is st slot code, sizes-is g) (go (entryCheck st))
-    where
-      go : (k : Check) → Good sz start (afterCheck k Refused st (writeBackSized slot code sz st) .store) p
-      go (Refused r) = g
-      go Accepted = copies-good
 
 -- ---- by advance
 module _ {sz : Sizes} {start : Jobs} {st : Store} {p : Plain} (y : Ready sz start st p) where

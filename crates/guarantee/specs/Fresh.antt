@@ -11,7 +11,7 @@ use native.Mathlib.Omega.{arith}
 use Rattle.search.specs.Bools.{cases, never, refuted, and-left, and-right}
 use Rattle.reply.specs.declared.Check.the-variants.{Accepted, Refused}
 use Rattle.reply.specs.declared.Refusal.the-variants.{BadSizes}
-use Rattle.image.specs.Layout.{queueBoard, headerAt, imageWords, filledKind, header, slotsOf, widthOf, clockOf, freeHeader, sizesOk}
+use Rattle.image.specs.Layout.{queueBoard, headerAt, imageWords, isFilled, header, slotsOf, widthOf, clockOf, freeHeader, sizesOk, isBlank, hasZero}
 use Rattle.image.specs.Requires.{InRange}
 use Rattle.image.specs.Laws.{sizes-true}
 use Rattle.transient.specs.Layout.{threadsOk}
@@ -23,8 +23,7 @@ use Rattle.acceptance.specs.Requires.{nameless}
 use Rattle.acceptance.specs.Sound.{says-accepted}
 use Rattle.format.specs.Format.{freshImage, format}
 use Rattle.format.specs.Requires.{formatFits, freshStore}
-use Rattle.guarantee.specs.Says.{filled-says}
-use Rattle.guarantee.specs.Clean.{Begins, blank-clean, survivor-kept, on-survives, free-proper, clean-good}
+use Rattle.guarantee.specs.Clean.{free-blank, Begins, blank-clean, survivor-kept, on-survives, free-proper, clean-good}
 
 module _ (n w : ℕ) (sizes : InRange n w) where
   abbrev image : List ℕ
@@ -77,7 +76,7 @@ module _ (n w : ℕ) (sizes : InRange n w) where
 
   -- nothing is kept, so nothing survives
   fresh-kept : (s : ℕ) → kept (clockOf image) (header image s) ≡ false
-  unfolding kept filledKind
+  unfolding kept isFilled hasZero
   fresh-kept s = rw (fresh-header s)
 
   fresh-dead : (m s : ℕ) → survivor image m s ≡ false
@@ -105,7 +104,7 @@ module _ (n w : ℕ) (sizes : InRange n w) where
   unfolding freshStore
   fresh-good len t =
       clean-good (blank-clean image len n 1 1 fresh-accepted
-      (λ s h f. let e : filledKind 0 ≡ true = rw (fresh-header s) at f in absurd (omega (arith, filled-says 0 e)))
+      (λ s h f. never (isBlank freeHeader) free-blank (rw (fresh-header s) at f))
       (omega arith)
       (λ s h v. never _ v (fresh-dead (slotsOf image) s))
       (λ s h v. never _ (on-survives image (slotsOf image) queueBoard s v) (fresh-dead (slotsOf image) s))

@@ -5,6 +5,7 @@ pub mod Good
 pub mod Says
 pub mod Notes
 pub mod Images
+pub mod Copying
 pub mod Frame
 pub mod Changing
 pub mod Lookups
@@ -27,6 +28,7 @@ pub mod Starting
 pub mod Running
 pub mod Syncs
 pub mod Worked
-pub mod Theorem
 pub mod Stores
+pub mod Tearing
+pub mod Theorem
 pub mod Ends

@@ -14,7 +14,7 @@ use Rattle.search.specs.Count.{count}
 use Rattle.search.specs.Ring.{firstRound, round-found}
 use Rattle.search.specs.declared.Found.{Found}
 use Rattle.search.specs.declared.Found.the-variants.{At, Nothing}
-use Rattle.image.specs.Layout.{payloadKind, header}
+use Rattle.image.specs.Layout.{isFilled, isPayload, header, contents}
 use Rattle.image.specs.declared.name.Name.{Name}
 use Rattle.image.specs.Name.{nameAt, same-name, name-same}
 use Rattle.image.specs.Laws.{name-contents}
@@ -26,11 +26,11 @@ use Rattle.table.specs.declared.find.Lookup.the-variants.{Later, Live, Absent}
 use Rattle.table.specs.Find.{newerAt, liveAt, liveSlot, lookup, freeAt, room}
 use Rattle.table.specs.Requires.{newer, lookedUp}
 use Rattle.crash.specs.Reference.{Jobs}
-use Rattle.crash.specs.Slots.{Slot, Filled, Payload}
+use Rattle.crash.specs.Slots.{Slot, Filled, Payload, Proper}
 use Rattle.guarantee.specs.Trace.{Plain}
-use Rattle.guarantee.specs.View.{view, view-in, view-out}
+use Rattle.guarantee.specs.View.{entryOf, view, view-in, view-out}
 use Rattle.guarantee.specs.Good.{Good}
-use Rattle.guarantee.specs.Says.{payload-says, says-payload, says-filled}
+use Rattle.guarantee.specs.Says.{payload-of, proper-filled, proper-payload}
 
 -- ---- what a look-up says
 pub record Missing (sz : Sizes) (tb : Table) (name : Name) (e : ℕ) : Type 0 where
@@ -94,8 +94,15 @@ module _ {sz : Sizes} {start : Jobs} {st : Store} {p : Plain} (g : Good sz start
   pub name-is : (m : ℕ) → m < sz .n → slots m .working .name ≡ nameAt (st .working) (sz .n) (sz .w) m
   name-is m h = rw (view-in st sz (p .clock) m h) (sym (name-contents (st .working) (sz .n) (sz .w) m (omega (arith, g .working .sized .sizes .width-lo))))
 
-  pub kind-hi : (m : ℕ) → m < sz .n → header (st .working) m .kind ≤ 3
-  kind-hi m h = rw (view-in st sz (p .clock) m h) at (g .inv .one m .proper .kind-hi)
+  -- working headers are proper, so what has a kind is filled
+  proper-at : (m : ℕ) → m < sz .n → Proper (p .clock) (entryOf (header (st .working) m) (contents (st .working) (sz .n) (sz .w) m))
+  proper-at m h = rw (view-in st sz (p .clock) m h) at (g .inv .one m .proper)
+
+  pub filled-at : (m : ℕ) → m < sz .n → 1 ≤ header (st .working) m .kind → isFilled (header (st .working) m) ≡ true
+  filled-at m h k = proper-filled (header (st .working) m) (contents (st .working) (sz .n) (sz .w) m) (proper-at m h) k
+
+  pub payload-at : (m : ℕ) → m < sz .n → Payload (entryOf (header (st .working) m) (contents (st .working) (sz .n) (sz .w) m)) → isPayload (header (st .working) m) ≡ true
+  payload-at m h k = proper-payload (header (st .working) m) (contents (st .working) (sz .n) (sz .w) m) (proper-at m h) (k .0) (k .1)
 
   pub free-says : {s : ℕ} → s < sz .n → freeAt (st .working) s ≡ true → slots s .working .kind ≡ 0
   unfolding freeAt
@@ -103,7 +110,7 @@ module _ {sz : Sizes} {start : Jobs} {st : Store} {p : Plain} (g : Good sz start
       rw (view-in st sz (p .clock) s h)
       (elim (ℕ-discrete (header (st .working) s .kind) 0) [
         | yes z ↦ z
-        | no z ↦ never _ (says-filled (header (st .working) s .kind) (omega arith) (kind-hi s h)) (not-true _ f)
+        | no z ↦ never _ (filled-at s h (omega arith)) (not-true _ f)
       ])
 
   -- refusal 9 passed: no filled slot of this name has a later epoch
@@ -116,7 +123,7 @@ module _ {sz : Sizes} {start : Jobs} {st : Store} {p : Plain} (g : Good sz start
       rw (view-in st sz (p .clock) m h)
       (elim (decLe (header (st .working) m .epoch) e) [
         | yes y ↦ y
-        | no y ↦ never _ (and-both (says-filled (header (st .working) m .kind) f′ (kind-hi m h)) (and-both (name-same _ _ (sym (name-is m h) ∙ k)) (lt-ltb e _ (omega arith)))) off
+        | no y ↦ never _ (and-both (filled-at m h f′) (and-both (name-same _ _ (sym (name-is m h) ∙ k)) (lt-ltb e _ (omega arith)))) off
       ])
 
   -- no live job of this name
@@ -128,7 +135,7 @@ module _ {sz : Sizes} {start : Jobs} {st : Store} {p : Plain} (g : Good sz start
       let off = found-nothing (liveAt sz (tableOf st) name) (sz .n) q m h in
       rw (view-in st sz (p .clock) m h)
       (elim (ℕ-discrete (retiredIn sz (st .transient) m) 0) [
-        | yes z ↦ never _ (and-both (says-payload (header (st .working) m .kind) (f′ .0) (f′ .1)) (and-both (eq-eqb _ 0 z) (name-same _ _ (sym (name-is m h) ∙ k)))) off
+        | yes z ↦ never _ (and-both (payload-at m h f′) (and-both (eq-eqb _ 0 z) (name-same _ _ (sym (name-is m h) ∙ k)))) off
         | no z ↦ omega arith
       ])
 
@@ -144,10 +151,10 @@ module _ {sz : Sizes} {start : Jobs} {st : Store} {p : Plain} (g : Good sz start
   live-of {name} {s} q =
       let f = found-first (liveAt sz (tableOf st) name) (sz .n) q in
       let h = f .below in
-      let a = payloadKind (header (st .working) s .kind) in
+      let a = isPayload (header (st .working) s) in
       let b = eqb (retiredIn sz (st .transient) s) 0 in
       let rest = and-right a _ (f .passes) in
-      let pay = payload-says (header (st .working) s .kind) (and-left a _ (f .passes)) in
+      let pay = payload-of (header (st .working) s) (and-left a _ (f .passes)) in
       record {
         below = h;
         payload = rw (view-in st sz (p .clock) s h) pay;

@@ -16,9 +16,9 @@ use Rattle.acceptance.specs.Accept.{survivesAs}
 use Rattle.format.specs.Format.{format}
 use Rattle.recovery.specs.declared.Recovery.the-variants.{Done}
 use Rattle.recovery.specs.Recover.{recover}
-use Rattle.recovery.specs.Completes.{AnyWords, call, Completes}
+use Rattle.recovery.specs.Recovering.{AnyWords, call, Completes, Reached}
 use Rattle.crash.specs.Reference.{Jobs, jobsAt, Fifo}
-use Rattle.guarantee.specs.Trace.{Moment}
+use Rattle.guarantee.specs.Trace.{Plain}
 
 -- ---- the jobs of an image, and the entries of its queue: its survivors, by name
 unfoldable pub jobsOf : List ℕ → Jobs
@@ -35,20 +35,22 @@ pub data Started : Store → Type 0 where
   fresh : (st : Store) (slots words : ℕ) → format st slots words .reply ≡ Accepted → Started (format st slots words .store)
   recovered : (st : Store) → recover st .reply ≡ Done → Started (recover st .store)
 
--- ---- a cut at a moment of a run that began with these jobs
-pub record Promise (start : Jobs) (m : Moment) : Type 0 where
+-- ---- a cut that leaves the image l, of a run that began with these jobs, with the plain board p beside it
+pub record Promise (start : Jobs) (l : List ℕ) (p : Plain) : Type 0 where
   -- "Let c be word 2 of lasting at the cut; it equals the plain board's clock there."
-  pub clock : clockOf (m .store .persistent) ≡ m .plain .clock
-  -- no recover call declines and at most N go on before one is done, with any words in working and notes before each of them
-  pub completes : (any : AnyWords (m .store .persistent)) → Completes any
+  pub clock : clockOf l ≡ p .clock
+  -- whatever recovery has come to, at most N calls have replied "went on"; no call declines, and if cuts cease one replies "done" before
+  -- these are more than N
+  pub at-most : {k : ℕ} {a : List ℕ} → Reached l k a → k ≤ slotsOf l
+  pub completes : {k : ℕ} {a : List ℕ} → Reached l k a → Completes (slotsOf l - k) a
   -- "An operation is present if its epoch is at most c − 2": the starting jobs changed by the row's entries of present operations
   -- "Both images' survivors at done are just these"
-  pub persistent : (any : AnyWords (m .store .persistent)) (c : Completes any)
-      → Holds (call any (c .before) .store .persistent) (jobsAt (m .plain .clock - 2) start (m .plain .row))
-  pub working : (any : AnyWords (m .store .persistent)) (c : Completes any)
-      → Holds (call any (c .before) .store .working) (jobsAt (m .plain .clock - 2) start (m .plain .row))
+  pub persistent : {k : ℕ} {a : List ℕ} → Reached l k a → (any : AnyWords a) → call a any .reply ≡ Done
+      → Holds (call a any .store .persistent) (jobsAt (p .clock - 2) start (p .row))
+  pub working : {k : ℕ} {a : List ℕ} → Reached l k a → (any : AnyWords a) → call a any .reply ≡ Done
+      → Holds (call a any .store .working) (jobsAt (p .clock - 2) start (p .row))
   -- 02, No. 3, first in, first out: each take of a present operation took away the smallest entry of the queue of present
   -- operations at its turn
-  pub fifo : Fifo (m .plain .clock - 2) start (m .plain .row)
+  pub fifo : Fifo (p .clock - 2) start (p .row)
   -- an operation that ended before a sync that reported done is present
-  pub durable : (e : ℕ) → List·Memᴰ e (m .plain .durable) → e + 2 ≤ m .plain .clock
+  pub durable : (e : ℕ) → List·Memᴰ e (p .durable) → e + 2 ≤ p .clock

@@ -19,7 +19,7 @@ use Rattle.reply.specs.declared.Check.{Check}
 use Rattle.reply.specs.declared.Check.the-variants.{Accepted, Refused}
 use Rattle.reply.specs.declared.Refusal.the-variants.{Newer, NoUid, Full, QueueEmpty}
 use Rattle.reply.specs.Refusals.{byCheck}
-use Rattle.image.specs.Layout.{mostNumber, queueBoard, payloadKind, header, keyAt}
+use Rattle.image.specs.Layout.{mostNumber, queueBoard, isPayload, header, keyAt}
 use Rattle.image.specs.declared.name.Name.{Name}
 use Rattle.image.specs.Name.{entryName, name-is as name-made, names-meet, key-same}
 use Rattle.transient.specs.declared.sizes.Sizes.{Sizes}
@@ -46,9 +46,9 @@ use Rattle.guarantee.specs.Trace.{Plain, toldChange, toldAppend, frontOr
 use Rattle.guarantee.specs.View.{view, view-in}
 use Rattle.guarantee.specs.Good.{stateOf, Good}
 use Rattle.guarantee.specs.Notes.{Joined, order-joins}
-use Rattle.guarantee.specs.Says.{payload-says, says-payload, says-filled}
+use Rattle.guarantee.specs.Says.{payload-of}
 use Rattle.guarantee.specs.Frame.{operation-of}
-use Rattle.guarantee.specs.Lookups.{Lives, filled-in, name-is, kind-hi, room-says}
+use Rattle.guarantee.specs.Lookups.{Lives, filled-in, name-is, filled-at, payload-at, room-says}
 use Rattle.guarantee.specs.Changing.{Fine, fine-refused, fine-declines, fine-way, fine-call, sizes-is, last-below, order-low}
 use Rattle.guarantee.specs.Making.{Fresh, made-good, made-notes}
 use Rattle.guarantee.specs.Replacing.{gone-fine}
@@ -75,7 +75,7 @@ module _ {sz : Sizes} {start : Jobs} {st : Store} {p : Plain} (g : Good sz start
       rw (view-in st sz (p .clock) m h)
       (elim (decLe (header (st .working) m .epoch) e) [
         | yes y ↦ y
-        | no y ↦ never _ (and-both (says-filled (header (st .working) m .kind) f′ (kind-hi g m h)) (and-both (eq-eqb _ queueBoard (sym (board-of m h) ∙ b)) (and-both (lt-ltb e _ (omega arith)) (not-is-true (ne-eqb e 0 o))))) off
+        | no y ↦ never _ (and-both (filled-at g m h f′) (and-both (eq-eqb _ queueBoard (sym (board-of m h) ∙ b)) (and-both (lt-ltb e _ (omega arith)) (not-is-true (ne-eqb e 0 o))))) off
       ])
 
   -- the front's slot holds the live entry with the smallest number
@@ -86,14 +86,14 @@ module _ {sz : Sizes} {start : Jobs} {st : Store} {p : Plain} (g : Good sz start
   front-of {e} {s} thread within begun is q found =
       let w = least-found (entryAt sz (tableOf st)) (keyAt (st .working) (sz .n) (sz .w)) (sz .n) s found in
       let h = w .below in
-      let a = payloadKind (header (st .working) s .kind) in
+      let a = isPayload (header (st .working) s) in
       let b = eqb (retiredIn sz (st .transient) s) 0 in
       let rest = and-right a _ (w .passes) in (
         h,
         record {
           of = record {
             operation = rw is at (operation-of g thread within begun);
-            payload = rw (view-in st sz (p .clock) s h) (payload-says (header (st .working) s .kind) (and-left a _ (w .passes)));
+            payload = rw (view-in st sz (p .clock) s h) (payload-of (header (st .working) s) (and-left a _ (w .passes)));
             current = rw (view-in st sz (p .clock) s h) (eqb-true _ 0 (and-left b _ rest));
           };
           board-is = board-of s h ∙ eqb-true _ queueBoard (and-right b _ rest);
@@ -106,7 +106,7 @@ module _ {sz : Sizes} {start : Jobs} {st : Store} {p : Plain} (g : Good sz start
                 arith,
                 key-of s h,
                 key-of m k,
-                w .least m k (and-both (says-payload (header (st .working) m .kind) (pay′ .0) (pay′ .1)) (and-both (eq-eqb _ 0 cur′) (eq-eqb _ queueBoard (sym (board-of m k) ∙ bd)))),
+                w .least m k (and-both (payload-at g m k pay′) (and-both (eq-eqb _ 0 cur′) (eq-eqb _ queueBoard (sym (board-of m k) ∙ bd)))),
               );
         },
       )

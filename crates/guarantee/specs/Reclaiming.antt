@@ -12,8 +12,10 @@ use Rattle.search.specs.Bools.{never, refuted, not-is-true, and-left, and-right
 use Rattle.search.specs.First.{found-first, found-nothing, whereFound}
 use Rattle.search.specs.declared.Found.{Found}
 use Rattle.search.specs.declared.Found.the-variants.{At, Nothing}
-use Rattle.image.specs.Layout.{payloadKind, header, contents, freeHeader}
+use Rattle.image.specs.declared.header.Header.{Header}
+use Rattle.image.specs.Layout.{hasZero, isFilled, isPayload, header, contents, freeHeader}
 use Rattle.image.specs.Line.{headerLine, storeLine}
+use Rattle.image.specs.Whole.{says-whole, filled-says}
 use Rattle.transient.specs.declared.sizes.Sizes.{Sizes}
 use Rattle.transient.specs.Layout.{retiredIn, setRetired, setPlace}
 use Rattle.transient.specs.Store.{Store, Table, store, tableOf}
@@ -30,7 +32,7 @@ use Rattle.guarantee.specs.Trace.{Plain}
 use Rattle.guarantee.specs.View.{view, view-in}
 use Rattle.guarantee.specs.Good.{stateOf, Good}
 use Rattle.guarantee.specs.Images.{Wrote, wrote-image, header-wrote}
-use Rattle.guarantee.specs.Says.{says-payload}
+use Rattle.guarantee.specs.Lookups.{filled-at, payload-at}
 use Rattle.guarantee.specs.Stepping.{lookedTo, passing-looked, Noted, noted-cleared, step-put, Reached, Ready, went-good}
 use Rattle.guarantee.specs.Ticking.{Owed}
 use Rattle.guarantee.specs.Flushing.{flush-good}
@@ -44,32 +46,33 @@ module _ (sz : Sizes) (tb : Table) (c s : ℕ) where
   abbrev r : ℕ
   r = retiredIn sz (tb .transient) s
 
-  abbrev k : ℕ
-  k = header (tb .working) s .kind
+  abbrev h : Header
+  h = header (tb .working) s
 
-  abbrev e : ℕ
-  e = header (tb .working) s .epoch
-
-  due-says : due sz tb c s ≡ true → ((1 ≤ r) × (r + 2 ≡ c)) ⊎ ((k ≡ 3) × (e + 3 ≡ c))
+  due-says : due sz tb c s ≡ true → ((1 ≤ r) × (r + 2 ≡ c)) ⊎ ((h .kind ≡ 3) × (h .epoch + 3 ≡ c))
   unfolding due
   due-says d =
       ⊎-elim
-      (λ (a : payloadKind k && (not (eqb r 0) && eqb (r + 2) c) ≡ true).
-      let b = and-right (payloadKind k) _ a in
+      (λ (a : isPayload h && (not (eqb r 0) && eqb (r + 2) c) ≡ true).
+      let b = and-right (isPayload h) _ a in
       let z = eqb-false r 0 (not-true _ (and-left (not (eqb r 0)) _ b)) in
       inl (omega arith, eqb-true (r + 2) c (and-right (not (eqb r 0)) _ b)))
-      (λ (a : eqb k 3 && eqb (e + 3) c ≡ true). inr (eqb-true k 3 (and-left (eqb k 3) _ a), eqb-true (e + 3) c (and-right (eqb k 3) _ a)))
-      (or-either (payloadKind k && (not (eqb r 0) && eqb (r + 2) c)) _ d)
+      (λ (a : not (hasZero h) && (eqb (h .kind) 3 && eqb (h .epoch + 3) c) ≡ true).
+      let b = and-right (not (hasZero h)) _ a in
+      inr (eqb-true (h .kind) 3 (and-left (eqb (h .kind) 3) _ b), eqb-true (h .epoch + 3) c (and-right (eqb (h .kind) 3) _ b)))
+      (or-either (isPayload h && (not (eqb r 0) && eqb (r + 2) c)) _ d)
 
-  spared-retired : due sz tb c s ≡ false → 1 ≤ k → k ≤ 2 → 1 ≤ r → r + 2 ≡ c → ⊥
+  spared-retired : due sz tb c s ≡ false → isPayload h ≡ true → 1 ≤ r → r + 2 ≡ c → ⊥
   unfolding due
-  spared-retired d a b h q =
-      never _ (and-both (says-payload k a b) (and-both (not-is-true (ne-eqb r 0 (λ z. omega arith))) (eq-eqb (r + 2) c q)))
-      (or-left (payloadKind k && (not (eqb r 0) && eqb (r + 2) c)) _ d)
+  spared-retired d a b q =
+      never _ (and-both a (and-both (not-is-true (ne-eqb r 0 (λ z. omega arith))) (eq-eqb (r + 2) c q)))
+      (or-left (isPayload h && (not (eqb r 0) && eqb (r + 2) c)) _ d)
 
-  spared-anti : due sz tb c s ≡ false → k ≡ 3 → e + 3 ≡ c → ⊥
+  spared-anti : due sz tb c s ≡ false → isFilled h ≡ true → h .kind ≡ 3 → h .epoch + 3 ≡ c → ⊥
   unfolding due
-  spared-anti d a q = never _ (and-both (eq-eqb k 3 a) (eq-eqb (e + 3) c q)) (or-right (payloadKind k && (not (eqb r 0) && eqb (r + 2) c)) _ d)
+  spared-anti d f a q =
+      never _ (and-both (not-is-true (says-whole h (filled-says h f .whole))) (and-both (eq-eqb (h .kind) 3 a) (eq-eqb (h .epoch + 3) c q)))
+      (or-right (isPayload h && (not (eqb r 0) && eqb (r + 2) c)) _ d)
 
 -- ---- the step
 module _ {sz : Sizes} {start : Jobs} {st : Store} {p : Plain} (y : Ready sz start st p) where
@@ -91,12 +94,11 @@ module _ {sz : Sizes} {start : Jobs} {st : Store} {p : Plain} (y : Ready sz star
         retired = λ b. elim (decLt c (retiredIn sz (st .transient) s + 2)) [
           | yes z ↦ z
           | no z ↦
-              let v = o .retired-of b .0 in
-              absurd (spared-retired sz (tableOf st) c s off (v .0) (v .1) b (omega (arith, o .retired-lo b)))
+              absurd (spared-retired sz (tableOf st) c s off (payload-at (y .good) s h (o .retired-of b .0)) b (omega (arith, o .retired-lo b)))
         ];
         anti = λ b. elim (decLt c (header (st .working) s .epoch + 3)) [
           | yes z ↦ z
-          | no z ↦ absurd (spared-anti sz (tableOf st) c s off b (omega (arith, o .anti-lo b)))
+          | no z ↦ absurd (spared-anti sz (tableOf st) c s off (filled-at (y .good) s h (omega arith)) b (omega (arith, o .anti-lo b)))
         ];
       })
 

@@ -16,14 +16,14 @@ use Rattle.advance.specs.Advance.{advance}
 use Rattle.advance.specs.Stages.{mostLines}
 use Rattle.sync.specs.Sync.{syncCheck, byReply}
 use Rattle.crash.specs.Reference.{Jobs}
-use Rattle.guarantee.specs.Trace.{Call, begins, ends, news, sets, deletes, reads, appends, takes, looks, advances, syncs, writesBack, Plain, plain, toldAdvance, Moment, Trace, stay, one, followed, afterAdvance, afterLine, afterLines, syncing, through, run, moments}
+use Rattle.guarantee.specs.Trace.{Call, begins, ends, news, sets, deletes, reads, appends, takes, looks, advances, syncs, writesBack, Plain, plain, toldAdvance, Moment, Trace, stay, one, followed, afterAdvance, afterWord, afterWords, syncing, through, run, moments}
 use Rattle.guarantee.specs.Promise.{jobsOf, Started}
 use Rattle.guarantee.specs.Good.{Good, startOf}
 use Rattle.guarantee.specs.Opening.{begin-good, end-good}
 use Rattle.guarantee.specs.Making.{new-good}
 use Rattle.guarantee.specs.Replacing.{set-good, delete-good}
 use Rattle.guarantee.specs.Queueing.{append-good, take-good}
-use Rattle.guarantee.specs.Flushing.{write-back-good}
+use Rattle.guarantee.specs.Copying.{write-back-good}
 use Rattle.guarantee.specs.Advancing.{advance-good}
 use Rattle.guarantee.specs.Starting.{start-good}
 
@@ -48,20 +48,20 @@ module _ (sz : Sizes) (start : Jobs) where
         last = b .last;
       }
 
-  -- ---- lines written back: the reference map does not hear of them
-  line-good : (k : ℕ × ℕ) (m : Moment) → GoodAt m → GoodAt (afterLine k m)
-  unfolding afterLine
-  line-good k m g = write-back-good (k .0) (k .1) g
+  -- ---- words written back: the reference map does not hear of them
+  word-good : (k : ℕ) (m : Moment) → GoodAt m → GoodAt (afterWord k m)
+  unfolding afterWord
+  word-good k m g = write-back-good k g
 
-  lines-good : (ks : List (ℕ × ℕ)) (m : Moment) → GoodAt m → GoodTrace (afterLines ks m)
-  unfolding afterLines
-  lines-good [] m g = good-stay m g
-  lines-good (k ∷ ks) m g = good-then (one (afterLine k m)) (afterLines ks) (good-one (afterLine k m) (line-good k m g)) (lines-good ks (afterLine k m) (line-good k m g))
+  words-good : (ks : List ℕ) (m : Moment) → GoodAt m → GoodTrace (afterWords ks m)
+  unfolding afterWords
+  words-good [] m g = good-stay m g
+  words-good (k ∷ ks) m g = good-then (one (afterWord k m)) (afterWords ks) (good-one (afterWord k m) (word-good k m g)) (words-good ks (afterWord k m) (word-good k m g))
 
-  lines-plain : (ks : List (ℕ × ℕ)) (m : Moment) → afterLines ks m .last .plain ≡ m .plain
-  unfolding afterLines afterLine
-  lines-plain [] m = refl
-  lines-plain (k ∷ ks) m = lines-plain ks (afterLine k m)
+  words-plain : (ks : List ℕ) (m : Moment) → afterWords ks m .last .plain ≡ m .plain
+  unfolding afterWords afterWord
+  words-plain [] m = refl
+  words-plain (k ∷ ks) m = words-plain ks (afterWord k m)
 
   -- ---- advance and sync
   advanced-good : (m : Moment) → GoodAt m → GoodAt (afterAdvance m)
@@ -101,22 +101,22 @@ module _ (sz : Sizes) (start : Jobs) where
       go Ticked i = b _ i (λ e j. omega (arith, h e j))
       go (Declined r) i = good-stay _ i
 
-  syncing-good : (more ticks k : ℕ) (lines : ℕ → List (ℕ × ℕ)) (m : Moment) → GoodAt m → Ahead ticks (m .plain) → GoodTrace (syncing more ticks k lines m)
+  syncing-good : (more ticks k : ℕ) (words : ℕ → List ℕ) (m : Moment) → GoodAt m → Ahead ticks (m .plain) → GoodTrace (syncing more ticks k words m)
   unfolding syncing
-  syncing-good more zero k lines m g h = good-one _ (done-good m g h)
-  syncing-good zero (suc ticks) k lines m g h = good-stay m g
-  syncing-good (suc more) (suc ticks) k lines m g h =
-      let a = lines-good (lines k) m g in
-      let on = syncing more (suc ticks) (suc k) lines in
-      let tick = syncing more ticks (suc k) lines in
-      good-then (afterLines (lines k) m) (λ x. followed (one (afterAdvance x)) (byReply (advance (x .store) .reply) on tick (λ _. stay))) a
-      (advances-good ticks on tick (afterLines (lines k) m .last) (a .last) (rw (lines-plain (lines k) m) h)
-      (syncing-good more (suc ticks) (suc k) lines) (syncing-good more ticks (suc k) lines))
+  syncing-good more zero k words m g h = good-one _ (done-good m g h)
+  syncing-good zero (suc ticks) k words m g h = good-stay m g
+  syncing-good (suc more) (suc ticks) k words m g h =
+      let a = words-good (words k) m g in
+      let on = syncing more (suc ticks) (suc k) words in
+      let tick = syncing more ticks (suc k) words in
+      good-then (afterWords (words k) m) (λ x. followed (one (afterAdvance x)) (byReply (advance (x .store) .reply) on tick (λ _. stay))) a
+      (advances-good ticks on tick (afterWords (words k) m .last) (a .last) (rw (words-plain (words k) m) h)
+      (syncing-good more (suc ticks) (suc k) words) (syncing-good more ticks (suc k) words))
 
-  synced-good : (k : Check) (lines : ℕ → List (ℕ × ℕ)) (m : Moment) → GoodAt m → GoodTrace (byCheck k (λ _. stay m) (syncing (2 * mostLines (slotsOf (m .store .working))) 2 0 lines m))
-  synced-good (Refused r) lines m g = good-stay m g
-  synced-good Accepted lines m g =
-      syncing-good (2 * mostLines (slotsOf (m .store .working))) 2 0 lines m g (λ e i. omega (arith, g .past .ended-hi e i))
+  synced-good : (k : Check) (words : ℕ → List ℕ) (m : Moment) → GoodAt m → GoodTrace (byCheck k (λ _. stay m) (syncing (2 * mostLines (slotsOf (m .store .working))) 2 0 words m))
+  synced-good (Refused r) words m g = good-stay m g
+  synced-good Accepted words m g =
+      syncing-good (2 * mostLines (slotsOf (m .store .working))) 2 0 words m g (λ e i. omega (arith, g .past .ended-hi e i))
 
   -- ---- calls, and lists of calls
   through-good : (c : Call) (m : Moment) → GoodAt m → GoodTrace (through c m)
@@ -131,8 +131,8 @@ module _ (sz : Sizes) (start : Jobs) where
   through-good (takes thread) m g = good-one _ (take-good thread g)
   through-good (looks thread) m g = good-one _ g
   through-good advances m g = good-one _ (advanced-good m g)
-  through-good (syncs lines) m g = synced-good (syncCheck (m .store)) lines m g
-  through-good (writesBack slot code) m g = good-one _ (line-good (slot, code) m g)
+  through-good (syncs words) m g = synced-good (syncCheck (m .store)) words m g
+  through-good (writesBack position) m g = good-one _ (word-good position m g)
 
   pub run-good : (calls : List Call) (m : Moment) → GoodAt m → GoodTrace (run calls m)
   unfolding run

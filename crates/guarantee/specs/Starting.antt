@@ -7,7 +7,7 @@ use lib.ListN.{length}
 use lib.Dec.{eqb}
 use borrow.Author.Tests.{not-false}
 use native.Mathlib.Omega.{arith}
-use Rattle.search.specs.Bools.{and-right}
+use Rattle.search.specs.Bools.{not-is-true, and-right}
 use Rattle.search.specs.Largest.{largest-bounds}
 use Rattle.search.specs.declared.Found.{Found}
 use Rattle.search.specs.declared.Found.the-variants.{At, Nothing}
@@ -23,7 +23,7 @@ use Rattle.acceptance.specs.Accept.{imageCheck}
 use Rattle.recovery.specs.declared.Recovery.the-variants.{Done, Declined}
 use Rattle.recovery.specs.Recover.{nextFreed, nextUid, nextOrder, lengthsFit, recoverCheck, freeing, recover}
 use Rattle.recovery.specs.Requires.{uidOf, finished}
-use Rattle.recovery.specs.Steps.{filledAt, done-survivors}
+use Rattle.recovery.specs.Steps.{nonzeroAt, done-survivors}
 use Rattle.guarantee.specs.Promise.{Started, fresh, recovered}
 use Rattle.guarantee.specs.Clean.{Begins, blank-clean, clean-good}
 use Rattle.guarantee.specs.Fresh.{fresh-good, formats}
@@ -31,11 +31,11 @@ use Rattle.guarantee.specs.Fresh.{fresh-good, formats}
 -- ---- a recovery that is done
 recovered-good : (l : List ℕ) (len : ℕ) → imageCheck l ≡ Accepted → nextFreed l (slotsOf l) ≡ Nothing → threadsOk len (slotsOf l) ≡ true
     → Begins (finished l len (slotsOf l) (widthOf l))
-unfolding finished filledAt nextUid nextOrder
+unfolding finished nonzeroAt nextUid nextOrder
 recovered-good l len ok none t =
     let n = slotsOf l in
     let w = widthOf l in
-    clean-good (blank-clean l len n (nextUid l n) (nextOrder l n w) ok (λ s h f. done-survivors l none s h ∙ f) (omega arith)
+    clean-good (blank-clean l len n (nextUid l n) (nextOrder l n w) ok (λ s h f. done-survivors l none s h ∙ not-is-true f) (omega arith)
     (λ s h v. omega (arith, largest-bounds (survivor l n) (uidOf l) n s h v))
     (λ s h v. omega (arith, largest-bounds (survivesOn l n queueBoard) (keyAt l n w) n s h v)) t)
 

@@ -92,9 +92,6 @@ pub record Noted (sz : Sizes) (tr tr′ : List ℕ) (s r : ℕ) : Type 0 where
   pub waiting : (d : ℕ) → isWaiting sz tr′ d s ≡ isWaiting sz tr d s
   pub retired : retiredIn sz tr′ s ≡ r
 
-pub noted-none : {sz : Sizes} {tr : List ℕ} {s : ℕ} → Noted sz tr tr s (retiredIn sz tr s)
-noted-none = record { long = refl; opens = λ u h. refl; uid = refl; order = refl; others = λ m d. record { retired = refl; waiting = λ e. refl }; waiting = λ d. refl; retired = refl }
-
 pub noted-place : (sz : Sizes) (tr : List ℕ) (s phase slot : ℕ) → Noted sz tr (setPlace tr phase slot) s (retiredIn sz tr s)
 noted-place sz tr s phase slot =
     let kept = place-slots tr sz phase slot in

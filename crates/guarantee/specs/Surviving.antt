@@ -9,14 +9,15 @@ use native.Mathlib.Omega.{arith}
 use native.Mathlib.Decide.{decLt, decLe}
 use Rattle.search.specs.Bools.{never, refuted, and-left, and-right, and-both, not-is-true}
 use Rattle.search.specs.Some.{some-none, none-some}
-use Rattle.image.specs.Layout.{payloadKind, header, contents, clockOf}
+use Rattle.image.specs.Layout.{isPayload, header, contents, clockOf}
+use Rattle.image.specs.Whole.{says-payload}
 use Rattle.transient.specs.declared.sizes.Sizes.{Sizes}
 use Rattle.transient.specs.Store.{Store}
 use Rattle.survival.specs.Survivors.{kept, beats, survivor}
 use Rattle.crash.specs.Slots.{Slot, Filled}
 use Rattle.crash.specs.Steps.{Kept, Survives}
 use Rattle.guarantee.specs.View.{view, view-in, view-out}
-use Rattle.guarantee.specs.Says.{payload-says, says-payload, kept-says, says-kept}
+use Rattle.guarantee.specs.Says.{payload-of, kept-says, says-kept}
 
 module _ (st : Store) (sz : Sizes) (c e : ℕ) (cut : e + 2 ≡ clockOf (st .persistent)) where
   abbrev slots : ℕ → Slot
@@ -52,12 +53,14 @@ module _ (st : Store) (sz : Sizes) (c e : ℕ) (cut : e + 2 ≡ clockOf (st .per
   pub at-survives : (s : ℕ) → Survives e slots s → (s < sz .n) × (survivor l (sz .n) s ≡ true)
   unfolding survivor
   at-survives s v =
-      let h = filled-in s (v .kept .filled) in
+      let h = filled-in s (v .kept .whole .kind-lo) in
       let k = rw (view-in st sz c s h) at (v .kept) in
       let p = rw (view-in st sz c s h) at (v .payload) in
       let is-kept = says-kept (clockOf l) e (header l s) (contents l (sz .n) (sz .w) s) cut (omega arith) k in
       let alone = none-some (λ m. beats (clockOf l) (header l s) (header l m)) (sz .n) (unbeaten s h v) in
-      (h, and-both (says-payload (header l s .kind) (k .filled) p) (and-both is-kept (not-is-true alone)))
+      let w = k .whole in
+      let is-payload = says-payload (header l s) (record { whole = record { kind-lo = w .kind-lo; epoch-lo = w .epoch-lo; uid-lo = w .uid-lo; board-lo = w .board-lo }; kind-hi = p }) in
+      (h, and-both is-payload (and-both is-kept (not-is-true alone)))
 
   module _ (kinds : (m : ℕ) → m < sz .n → header l m .kind ≤ 3) where
     -- .. and a survivor of the image one of the table
@@ -65,15 +68,15 @@ module _ (st : Store) (sz : Sizes) (c e : ℕ) (cut : e + 2 ≡ clockOf (st .per
     unfolding survivor beats
     survives-at s h v =
         let is = view-in st sz c s h in
-        let p = payloadKind (header l s .kind) in
+        let p = isPayload (header l s) in
         let k = kept (clockOf l) (header l s) in
         let won = and-right p _ v in
         let unbeaten = some-none (λ m. beats (clockOf l) (header l s) (header l m)) (sz .n) (not-true _ (and-right k _ won)) in
         record {
           kept = kept-at s h (and-left k _ won);
-          payload = rw is (payload-says (header l s .kind) (and-left p _ v) .1);
+          payload = rw is (payload-of (header l s) (and-left p _ v) .1);
           wins = λ m x u.
-              let b = filled-in m (x .filled) in
+              let b = filled-in m (x .whole .kind-lo) in
               let at = view-in st sz c m b in
               let x′ = rw at at x in
               let u′ = rw (at, is) at u in

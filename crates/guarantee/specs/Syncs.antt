@@ -1,4 +1,4 @@
--- A sync in a run is the sync that the contract cites: with no lines written back it leaves the same store, and where the call
+-- A sync in a run is the sync that the contract cites: with no words written back it leaves the same store, and where the call
 -- reports done, the reference map has heard of it.
 use Prim.Native.Nat.{ℕ, zero, suc, _*_}
 use mathlib.Core.Path.{_≡_, refl}
@@ -16,7 +16,7 @@ use Rattle.advance.specs.Stages.{mostLines}
 use Rattle.sync.specs.declared.answer.Sync.{Sync}
 use Rattle.sync.specs.declared.answer.Sync.the-variants as reply
 use Rattle.sync.specs.Sync.{syncCheck, byReply, syncFrom, sync}
-use Rattle.guarantee.specs.Trace.{Moment, Trace, stay, one, followed, afterAdvance, afterLines, toldAdvance, syncing, syncs, through}
+use Rattle.guarantee.specs.Trace.{Moment, Trace, stay, one, followed, afterAdvance, afterWords, toldAdvance, syncing, syncs, through}
 
 -- the trace tr is that of a sync with the answer a
 pub record Same (a : Outcome Sync) (tr : Trace) : Type 0 where
@@ -28,7 +28,7 @@ not-done : {A : Type 0} {r : _} {k : ℕ} → reply.Declined r ≡ reply.Done k 
 not-done e = let z : _≡_ {A = ℕ} 0 1 = cc in absurd (omega arith)
 
 same-syncing : (more ticks k lines : ℕ) (m : Moment) → Same (syncFrom more ticks lines (m .store)) (syncing more ticks k (λ _. []) m)
-unfolding syncFrom syncing afterLines afterAdvance
+unfolding syncFrom syncing afterWords afterAdvance
 same-syncing more zero k lines m = record { store = refl; done = λ k e. refl }
 same-syncing zero (suc ticks) k lines m = record { store = refl; done = λ k e. not-done e }
 same-syncing (suc more) (suc ticks) k lines m =

@@ -28,8 +28,8 @@ use Rattle.sync.specs.Sync.{syncCheck, byReply}
 use Rattle.write_back.specs.WriteBack.{writeBack}
 use Rattle.crash.specs.Reference.{Change}
 
--- a call with its arguments; a sync also with the lines that the memory writes back before each of its advance calls, the first
--- being number 0: each line is its slot and its code, 0 for contents or 1 for the header
+-- a call with its arguments; a sync also with the words that the memory writes back before each of its advance calls, the first
+-- being number 0: each word by its position
 pub data Call : Type 0 where
   begins : (thread : ℕ) → Call
   ends : (thread : ℕ) → Call
@@ -41,8 +41,8 @@ pub data Call : Type 0 where
   takes : (thread : ℕ) → Call
   looks : (thread : ℕ) → Call
   advances : Call
-  syncs : (lines : ℕ → List (ℕ × ℕ)) → Call
-  writesBack : (slot code : ℕ) → Call
+  syncs : (words : ℕ → List ℕ) → Call
+  writesBack : (position : ℕ) → Call
 
 -- ---- the reference map
 -- "It keeps a clock (first the store's), each thread's open operation (first none) and a row of changes (first empty)."
@@ -107,27 +107,27 @@ one m = record { passed = m ∷ []; last = m }
 abbrev pub followed : Trace → (Moment → Trace) → Trace
 followed p next = record { passed = p .passed ++ next (p .last) .passed; last = next (p .last) .last }
 
--- ---- an advance call; a line written back, of slot k .0 with code k .1, of which the reference map does not hear
+-- ---- an advance call; a word written back, of which the reference map does not hear
 unfoldable pub afterAdvance : Moment → Moment
 afterAdvance m = told (advance (m .store)) toldAdvance m
 
-unfoldable pub afterLine : ℕ × ℕ → Moment → Moment
-afterLine k m = told (writeBack (m .store) (k .0) (k .1)) (λ _ p. p) m
+unfoldable pub afterWord : ℕ → Moment → Moment
+afterWord i m = told (writeBack (m .store) i) (λ _ p. p) m
 
-unfoldable pub afterLines : List (ℕ × ℕ) → Moment → Trace
-afterLines [] m = stay m
-afterLines (k ∷ ks) m = followed (one (afterLine k m)) (afterLines ks)
+unfoldable pub afterWords : List ℕ → Moment → Trace
+afterWords [] m = stay m
+afterWords (i ∷ is) m = followed (one (afterWord i m)) (afterWords is)
 
 -- ---- sync: "in a run it stands for those advance calls, so that a cut, or a line written back, may fall after any of them"
--- lines written back, an advance call, and so on by its reply until so many more ticks have happened: then what has ended is durable.
+-- words written back, an advance call, and so on by its reply until so many more ticks have happened: then what has ended is durable.
 -- At most `more` advance calls; a declined one ends the sync
-unfoldable pub syncing : ℕ → ℕ → ℕ → (ℕ → List (ℕ × ℕ)) → Moment → Trace
-syncing more zero k lines m =
+unfoldable pub syncing : ℕ → ℕ → ℕ → (ℕ → List ℕ) → Moment → Trace
+syncing more zero k words m =
     one (record { store = m .store; plain = plain (m .plain .clock) (m .plain .operation) (m .plain .row) (m .plain .ended) (m .plain .ended) })
-syncing zero (suc ticks) k lines m = stay m
-syncing (suc more) (suc ticks) k lines m =
-    followed (afterLines (lines k) m) (λ x. followed (one (afterAdvance x))
-    (byReply (advance (x .store) .reply) (syncing more (suc ticks) (suc k) lines) (syncing more ticks (suc k) lines) (λ _. stay)))
+syncing zero (suc ticks) k words m = stay m
+syncing (suc more) (suc ticks) k words m =
+    followed (afterWords (words k) m) (λ x. followed (one (afterAdvance x))
+    (byReply (advance (x .store) .reply) (syncing more (suc ticks) (suc k) words) (syncing more ticks (suc k) words) (λ _. stay)))
 
 -- ---- a call, and a list of calls
 unfoldable pub through : Call → Moment → Trace
@@ -141,15 +141,25 @@ through (appends thread value) m = one (told (appendEntry (m .store) thread valu
 through (takes thread) m = one (told (takeEntry (m .store) thread) (toldChange thread (entryName (frontOrder (m .store))) none) m)
 through (looks thread) m = one m
 through advances m = one (afterAdvance m)
-through (syncs lines) m = byCheck (syncCheck (m .store)) (λ _. stay m) (syncing (2 * (3 * slotsOf (m .store .working) + 1)) 2 0 lines m)
-through (writesBack slot code) m = one (afterLine (slot, code) m)
+through (syncs words) m = byCheck (syncCheck (m .store)) (λ _. stay m) (syncing (2 * (3 * slotsOf (m .store .working) + 1)) 2 0 words m)
+through (writesBack position) m = one (afterWord position m)
 
 unfoldable pub run : List Call → Moment → Trace
 run [] m = stay m
 run (c ∷ cs) m = followed (through c m) (run cs)
 
 -- "Its first call gets what fresh left, or the recover that replied done", and the plain board's clock is "first the store's".
--- "A cut falls before, between or after a run's calls": before the first, or at any moment passed
+-- "A cut falls before, between or after a run's calls": before the first, or at any moment passed ..
 unfoldable pub moments : Store → List Call → List Moment
 moments st calls =
     let start : Moment = record { store = st; plain = plain (clockOf (st .persistent)) (λ _. 0) [] [] [] } in start ∷ run calls start .passed
+
+-- .. 02, No. 4: or within the line store that leads from a moment to the next
+pub data Around : List Moment → Moment → Moment → Type 0 where
+  at : {m : Moment} {ms : List Moment} → Around (m ∷ ms) m m
+  within : {m x : Moment} {ms : List Moment} → Around (m ∷ x ∷ ms) m x
+  later : {y m x : Moment} {ms : List Moment} → Around ms m x → Around (y ∷ ms) m x
+
+-- the plain board beside an image that such a cut leaves: with the new clock word the advance counts as made
+abbrev pub beside : List ℕ → Moment → Moment → Plain
+beside l before after = cond (eqb (clockOf l) (after .plain .clock)) (after .plain) (before .plain)

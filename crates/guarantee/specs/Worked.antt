@@ -1,8 +1,8 @@
 -- The lines that 01 marks P ("Contracts and cases"), as one statement that ranges over their list.
 use Prim.Native.Nat.{ℕ, _+_}
 use mathlib.Core.Path.{_≡_, refl, sym, _∙_}
-use mathlib.Core.Bool.{Bool, true, false, _||_}
-use mathlib.Core.Logic.{⊎-elim}
+use mathlib.Core.Bool.{Bool, true, false, not, _&&_, _||_}
+use mathlib.Core.Logic.{_≢_, ⊎-elim}
 use mathlib.Core.List.{List, [], _∷_, List·Memᴰ, List·Memᴰ·cases-cons, List·Memᴰ·not-nil}
 use lib.Dec.{eqb}
 use borrow.Author.Tests.{eq-eqb, ne-eqb}
@@ -13,13 +13,13 @@ use Rattle.search.specs.First.{firstOf}
 use Rattle.search.specs.Some.{anyOf}
 use Rattle.search.specs.Count.{count}
 use Rattle.image.specs.declared.header.Header.{Header}
-use Rattle.image.specs.Layout.{headerOf, imageWords, payloadKind, filledKind, header}
+use Rattle.image.specs.Layout.{headerOf, imageWords, hasZero, isPayload, isFilled, header}
+use Rattle.image.specs.Whole.{says-whole, filled-says, payload-not-anti}
 use Rattle.transient.specs.declared.sizes.Sizes.{Sizes}
 use Rattle.transient.specs.Layout.{retiredIn}
 use Rattle.transient.specs.Store.{Table}
 use Rattle.survival.specs.Survivors.{kept, beats, survivor, survivorCount}
 use Rattle.step.specs.Step.{due}
-use Rattle.guarantee.specs.Says.{payload-says}
 
 -- a line of 01, as a case
 pub data Case : Type 0 where
@@ -47,21 +47,20 @@ twoVersions alloc anti clock = 2 ∷ 2 ∷ clock ∷ 1 ∷ alloc ∷ 1 ∷ 1 ∷
 
 -- what a line says, in terms of the definitions that the contracts and the trace use
 abbrev pub Says : Case → Type 0
-Says (is-kept e c b) = (uid board : ℕ) → (kept c (headerOf 1 e uid board) ≡ b) × (kept c (headerOf 2 e uid board) ≡ b) × (kept c (headerOf 3 e uid board) ≡ b)
+Says (is-kept e c b) =
+    (u d : ℕ) → u ≢ 0 → d ≢ 0 → (kept c (headerOf 1 e u d) ≡ b) × (kept c (headerOf 2 e u d) ≡ b) × (kept c (headerOf 3 e u d) ≡ b)
 Says (has-words n w k) = imageWords n w ≡ k
-Says (retired-freed e c) = (z : Sizes) (tb : Table) (s d : ℕ) → payloadKind (header (tb .working) s .kind) ≡ true → retiredIn z (tb .transient) s ≡ e → due z tb d s ≡ eqb d c
-Says (anti-freed e c) = (z : Sizes) (tb : Table) (s d : ℕ) → header (tb .working) s .kind ≡ 3 → header (tb .working) s .epoch ≡ e → due z tb d s ≡ eqb d c
+Says (retired-freed e c) = (z : Sizes) (tb : Table) (s d : ℕ) → isPayload (header (tb .working) s) ≡ true → retiredIn z (tb .transient) s ≡ e → due z tb d s ≡ eqb d c
+Says (anti-freed e c) = (z : Sizes) (tb : Table) (s d : ℕ) → isFilled (header (tb .working) s) ≡ true → header (tb .working) s .kind ≡ 3 → header (tb .working) s .epoch ≡ e → due z tb d s ≡ eqb d c
 Says (survive a d c b k) = (survivor (twoVersions a d c) 2 0 ≡ b) × (survivorCount (twoVersions a d c) 2 ≡ k)
 
 -- ---- the proofs
 eqb-sym : (a b : ℕ) → eqb a b ≡ eqb b a
 eqb-sym a b = elim (ℕ-discrete a b) [ yes q ↦ rw (eq-eqb a b q, eq-eqb b a (sym q)) | no q ↦ rw (ne-eqb a b q, ne-eqb b a (λ r. q (sym r))) ]
 
-payload-not-anti : (k : ℕ) → payloadKind k ≡ true → eqb k 3 ≡ false
-payload-not-anti k h = ne-eqb k 3 (λ q. omega (arith, payload-says k h))
-
-anti-not-payload : (k : ℕ) → k ≡ 3 → payloadKind k ≡ false
-anti-not-payload k q = refuted (payloadKind k) (λ h. omega (arith, payload-says k h))
+and-none : (a : Bool) → a && false ≡ false
+and-none true = refl
+and-none false = refl
 
 or-no : (b : Bool) → b || false ≡ b
 or-no true = refl
@@ -71,13 +70,15 @@ module _ (z : Sizes) (tb : Table) (s d e : ℕ) where
   abbrev h : Header
   h = header (tb .working) s
 
-  retired-due : payloadKind (h .kind) ≡ true → retiredIn z (tb .transient) s ≡ e → (e ≡ 0 → ⊥) → due z tb d s ≡ eqb d (e + 2)
+  retired-due : isPayload h ≡ true → retiredIn z (tb .transient) s ≡ e → (e ≡ 0 → ⊥) → due z tb d s ≡ eqb d (e + 2)
   unfolding due
-  retired-due p q n = rw (p, q, payload-not-anti (h .kind) p, ne-eqb e 0 n) (or-no (eqb (e + 2) d) ∙ eqb-sym (e + 2) d)
+  retired-due p q n =
+      rw (p, q, ne-eqb (h .kind) 3 (payload-not-anti h p), ne-eqb e 0 n, and-none (not (hasZero h))) (or-no (eqb (e + 2) d) ∙ eqb-sym (e + 2) d)
 
-  anti-due : h .kind ≡ 3 → h .epoch ≡ e → due z tb d s ≡ eqb d (e + 3)
+  anti-due : isFilled h ≡ true → h .kind ≡ 3 → h .epoch ≡ e → due z tb d s ≡ eqb d (e + 3)
   unfolding due
-  anti-due p q = rw (anti-not-payload (h .kind) p, eq-eqb (h .kind) 3 p, q) (eqb-sym (e + 3) d)
+  anti-due f p q =
+      rw (refuted (isPayload h) (λ v. payload-not-anti h v p), says-whole h (filled-says h f .whole), eq-eqb (h .kind) 3 p, q) (eqb-sym (e + 3) d)
 
 -- the first of a list, and the others
 each : (P : Case → Type 0) (y : Case) (ys : List Case) → P y → ((x : Case) → List·Memᴰ x ys → P x) → (x : Case) → List·Memᴰ x (y ∷ ys) → P x
@@ -85,16 +86,16 @@ each P y ys here there x m = ⊎-elim (λ q. rw q here) (there x) (List·Memᴰ�
 
 -- every line marked P
 pub worked : (x : Case) → List·Memᴰ x lines → Says x
-unfolding lines kept filledKind payloadKind header survivor beats survivorCount anyOf firstOf count
+unfolding lines kept isFilled isPayload hasZero header survivor beats survivorCount anyOf firstOf count
 worked =
-    each Says _ _ (λ uid board. (refl, refl, refl))
-    (each Says _ _ (λ uid board. (refl, refl, refl))
-    (each Says _ _ (λ uid board. (refl, refl, refl))
-    (each Says _ _ (λ uid board. (refl, refl, refl))
+    each Says _ _ (λ u d p q. (rw (ne-eqb u 0 p, ne-eqb d 0 q), rw (ne-eqb u 0 p, ne-eqb d 0 q), rw (ne-eqb u 0 p, ne-eqb d 0 q)))
+    (each Says _ _ (λ u d p q. (rw (ne-eqb u 0 p, ne-eqb d 0 q), rw (ne-eqb u 0 p, ne-eqb d 0 q), rw (ne-eqb u 0 p, ne-eqb d 0 q)))
+    (each Says _ _ (λ u d p q. (rw (ne-eqb u 0 p, ne-eqb d 0 q), rw (ne-eqb u 0 p, ne-eqb d 0 q), rw (ne-eqb u 0 p, ne-eqb d 0 q)))
+    (each Says _ _ (λ u d p q. (rw (ne-eqb u 0 p, ne-eqb d 0 q), rw (ne-eqb u 0 p, ne-eqb d 0 q), rw (ne-eqb u 0 p, ne-eqb d 0 q)))
     (each Says _ _ refl
     (each Says _ _ refl
     (each Says _ _ (λ z tb s d h q. retired-due z tb s d 4 h q (λ n. omega arith))
-    (each Says _ _ (λ z tb s d h q. anti-due z tb s d 4 h q)
+    (each Says _ _ (λ z tb s d f h q. anti-due z tb s d 4 f h q)
     (each Says _ _ (refl, refl)
     (each Says _ _ (refl, refl)
     (λ x m. absurd (List·Memᴰ·not-nil m)))))))))))

@@ -5,7 +5,7 @@ use mathlib.Core.List.{List}
 use mathlib.Core.Bool.{Bool, true, false}
 use mathlib.Core.Logic.{⊎-elim}
 use lib.ListN.{length, getD, set, take, drop}
-use lib.Dec.{ltb, eqb}
+use lib.Dec.{leb, ltb, eqb}
 use borrow.Author.Tests.{eq-eqb, ne-eqb}
 use native.Mathlib.Omega.{arith}
 use mir.Val.{Fits}
@@ -13,7 +13,7 @@ use mir.Syntax.{w64}
 use Rattle.search.specs.Bools.{cases, tests}
 use Rattle.image.specs.declared.header.Header.{Header}
 use Rattle.image.specs.declared.name.Name.{Name}
-use Rattle.image.specs.Layout.{mostNumber, queueBoard, headerAt, contentsAt, imageWords, headerOf, header, contents, keyAt, slotsOf, widthOf, sizesOk, shapeOk}
+use Rattle.image.specs.Layout.{mostNumber, queueBoard, headerAt, contentsAt, imageWords, headerOf, isBlank, hasZero, isFilled, isPayload, header, contents, keyAt, slotsOf, widthOf, sizesOk, shapeOk}
 use Rattle.image.specs.Line.{headerLine, contentsLine, clockLine, stored, storeLine}
 use Rattle.image.specs.Name.{nameOf, nameAt, sameName, misnamed}
 use Rattle.image.specs.Requires.{kindAt, epochAt, uidAt, boardAt, InRange, Slot, SlotOf, Slots, SlotLine, slot, header-fits, slot-of}
@@ -30,6 +30,62 @@ pub header-stored : (l : List ℕ) (s : ℕ) (h : Header)
     → set (set (set (set l (headerAt s) (h .kind)) (headerAt s + 1) (h .epoch)) (headerAt s + 2) (h .uid)) (headerAt s + 3) (h .board) ≡ storeLine l (headerLine s h)
 unfolding storeLine stored
 header-stored l s h = let first : headerAt s + 0 ≡ headerAt s = omega arith in rw first
+
+module _ (h : Header) where
+  pub blank-kind : (h .kind ≡ 0 → ⊥) → false ≡ isBlank h
+  unfolding isBlank
+  blank-kind a = rw (ne-eqb (h .kind) 0 a)
+
+  pub zero-kind : h .kind ≡ 0 → true ≡ hasZero h
+  unfolding hasZero
+  zero-kind a = rw (eq-eqb (h .kind) 0 a)
+
+  module _ (a : h .kind ≡ 0) where
+    pub blank-epoch : (h .epoch ≡ 0 → ⊥) → false ≡ isBlank h
+    unfolding isBlank
+    blank-epoch b = rw (eq-eqb (h .kind) 0 a, ne-eqb (h .epoch) 0 b)
+
+    module _ (b : h .epoch ≡ 0) where
+      pub blank-uid : (h .uid ≡ 0 → ⊥) → false ≡ isBlank h
+      unfolding isBlank
+      blank-uid u = rw (eq-eqb (h .kind) 0 a, eq-eqb (h .epoch) 0 b, ne-eqb (h .uid) 0 u)
+
+      pub blank-rest : h .uid ≡ 0 → eqb (h .board) 0 ≡ isBlank h
+      unfolding isBlank
+      blank-rest u = rw (eq-eqb (h .kind) 0 a, eq-eqb (h .epoch) 0 b, eq-eqb (h .uid) 0 u)
+
+  module _ (a : h .kind ≡ 0 → ⊥) where
+    pub zero-epoch : h .epoch ≡ 0 → true ≡ hasZero h
+    unfolding hasZero
+    zero-epoch b = rw (ne-eqb (h .kind) 0 a, eq-eqb (h .epoch) 0 b)
+
+    module _ (b : h .epoch ≡ 0 → ⊥) where
+      pub zero-uid : h .uid ≡ 0 → true ≡ hasZero h
+      unfolding hasZero
+      zero-uid u = rw (ne-eqb (h .kind) 0 a, ne-eqb (h .epoch) 0 b, eq-eqb (h .uid) 0 u)
+
+      pub zero-rest : (h .uid ≡ 0 → ⊥) → eqb (h .board) 0 ≡ hasZero h
+      unfolding hasZero
+      zero-rest u = rw (ne-eqb (h .kind) 0 a, ne-eqb (h .epoch) 0 b, ne-eqb (h .uid) 0 u)
+
+  module _ {z : Bool} (ze : z ≡ hasZero h) where
+    pub filled-zero : z ≡ true → false ≡ isFilled h
+    unfolding isFilled
+    filled-zero e = rw (← ze, e)
+
+    pub filled-kind : z ≡ false → leb (h .kind) 3 ≡ isFilled h
+    unfolding isFilled
+    filled-kind e = rw (← ze, e)
+
+    pub payload-zero : z ≡ true → false ≡ isPayload h
+    unfolding isPayload
+    payload-zero e = rw (← ze, e)
+
+    pub payload-kind : z ≡ false → leb (h .kind) 2 ≡ isPayload h
+    unfolding isPayload
+    payload-kind e = rw (← ze, e)
+
+pub ruleset headers = (blank-kind, blank-epoch, blank-uid, blank-rest, zero-kind, zero-epoch, zero-uid, zero-rest, filled-zero, filled-kind, payload-zero, payload-kind)
 
 -- ---- contents
 pub contents-fits : {n w s : ℕ} → SlotOf n w s → Fits w64 (w * s)

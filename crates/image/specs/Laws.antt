@@ -110,13 +110,13 @@ unfolding storeLine
 word-apart l k j o = stored-outside l (k .at) (k .words) (length (k .words)) j (⊎-elim (λ h. inl (omega arith)) (λ h. inr h) o)
 
 -- the part of m words from b on
-part-word : (l : List ℕ) (b m j : ℕ) → j < m → getD (take m (drop b l)) j 0 ≡ getD l (b + j) 0
+pub part-word : (l : List ℕ) (b m j : ℕ) → j < m → getD (take m (drop b l)) j 0 ≡ getD l (b + j) 0
 part-word l b m j h = getD-take m (drop b l) j 0 h ∙ getD-drop b l j 0
 
-part-long : (l l′ : List ℕ) (b m : ℕ) → length l′ ≡ length l → length (take m (drop b l′)) ≡ length (take m (drop b l))
+pub part-long : (l l′ : List ℕ) (b m : ℕ) → length l′ ≡ length l → length (take m (drop b l′)) ≡ length (take m (drop b l))
 part-long l l′ b m e = simp (length-take, length-drop, e)
 
-part-top : (l : List ℕ) (b m : ℕ) → length (take m (drop b l)) ≤ m
+pub part-top : (l : List ℕ) (b m : ℕ) → length (take m (drop b l)) ≤ m
 part-top l b m = simp length-take (omega arith)
 
 pub part-apart : (l : List ℕ) (k : Line) (b m : ℕ) → Apart k b m → take m (drop b (storeLine l k)) ≡ take m (drop b l)

@@ -1,6 +1,6 @@
 -- 01, "The two images and the notes": where each word of an image stands, and what is read there.
 use Prim.Native.Nat.{ℕ, _+_, _*_, _-_}
-use mathlib.Core.Bool.{Bool, _&&_}
+use mathlib.Core.Bool.{Bool, not, _&&_, _||_}
 use mathlib.Core.List.{List}
 use lib.ListN.{length, getD, take, drop}
 use lib.Dec.{leb, eqb}
@@ -56,11 +56,20 @@ updatedHeader e h = headerOf 2 e (h .uid) (h .board)
 abbrev pub antiHeader : ℕ → Header → Header
 antiHeader e h = headerOf 3 e (h .uid) (h .board)
 
-unfoldable pub filledKind : ℕ → Bool
-filledKind k = leb 1 k && leb k 3
+-- four zeros
+unfoldable pub isBlank : Header → Bool
+isBlank h = eqb (h .kind) 0 && (eqb (h .epoch) 0 && (eqb (h .uid) 0 && eqb (h .board) 0))
 
-unfoldable pub payloadKind : ℕ → Bool
-payloadKind k = leb 1 k && leb k 2
+-- 02, No. 4: "A mark with any of its four words 0 counts as free"
+unfoldable pub hasZero : Header → Bool
+hasZero h = eqb (h .kind) 0 || (eqb (h .epoch) 0 || (eqb (h .uid) 0 || eqb (h .board) 0))
+
+-- "Calls other than recover take a kind above 3 as free"
+unfoldable pub isFilled : Header → Bool
+isFilled h = not (hasZero h) && leb (h .kind) 3
+
+unfoldable pub isPayload : Header → Bool
+isPayload h = not (hasZero h) && leb (h .kind) 2
 
 -- ---- readers
 

@@ -3,6 +3,8 @@ pub mod Line
 pub mod Name
 pub mod Requires
 pub mod Laws
+pub mod Whole
+pub mod Torn
 pub mod Bytes
 pub mod Storing
 pub mod Exits

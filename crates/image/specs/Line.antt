@@ -1,4 +1,4 @@
--- 01: "A line is one slot's mark, one slot's contents, or the clock word. A line is stored whole or not at all."
+-- 01: "A line is one slot's mark, one slot's contents, or the clock word." What a cut within its store leaves is `Torn` (Torn.antt).
 use Prim.Native.Nat.{ℕ, zero, suc, _+_}
 use mathlib.Core.List.{List, [], _∷_}
 use lib.ListN.{length, getD, set}

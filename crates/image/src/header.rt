@@ -1,8 +1,8 @@
 // A header (01: a mark): its kinds, its constructors, its readers and its writer.
 ghost use mathlib.Core.Path.{_≡_};
-ghost use Rattle.image.specs.Layout.{header, freeHeader, freshHeader, updatedHeader, antiHeader, filledKind, payloadKind};
+ghost use Rattle.image.specs.Layout.{header, freeHeader, freshHeader, updatedHeader, antiHeader, isBlank, hasZero, isFilled, isPayload};
 ghost use Rattle.image.specs.Line.{headerLine, storeLine};
-ghost use Rattle.image.specs.Requires.{HeaderFits, kindAt, boardAt};
+ghost use Rattle.image.specs.Requires.{HeaderFits, boardAt};
 
 pub struct Header {
     pub kind: u32,
@@ -79,13 +79,6 @@ impl Header {
     }
 }
 
-pub fn kind_at(img: &[u32], n: usize, s: usize) -> u32
-    requires { ⌜ HeaderFits (now img) n s ⌝ }
-    ensures { λ r. ⌜ r ≡ kindAt (now (img .entry)) s ⌝ }
-{
-    img[3 + Header::WORDS * s]
-}
-
 pub fn board_at(img: &[u32], n: usize, s: usize) -> u32
     requires { ⌜ HeaderFits (now img) n s ⌝ }
     ensures { λ r. ⌜ r ≡ boardAt (now (img .entry)) s ⌝ }
@@ -117,20 +110,52 @@ pub fn set_header(img: &mut [u32], n: usize, s: usize, h: Header)
     img[b + 3] = h.board;
 }
 
-pub fn filled(kind: u32) -> bool
-    ensures { λ r. ⌜ r ≡ filledKind kind ⌝ }
+// Four zeros?
+pub fn blank(h: Header) -> bool
+    ensures { λ r. ⌜ r ≡ isBlank h ⌝ }
 {
-    if kind < Header::ALLOC {
+    if h.kind != Header::FREE {
         return false;
     }
-    kind <= Header::DELETE
+    if h.epoch != 0 {
+        return false;
+    }
+    if h.uid != 0 {
+        return false;
+    }
+    h.board == 0
 }
 
-pub fn payload(kind: u32) -> bool
-    ensures { λ r. ⌜ r ≡ payloadKind kind ⌝ }
+// Is any word 0? Such a header counts as free: a store of it, or of zeros over it, was cut or is not whole yet.
+pub fn has_zero(h: Header) -> bool
+    ensures { λ r. ⌜ r ≡ hasZero h ⌝ }
 {
-    if kind < Header::ALLOC {
+    if h.kind == Header::FREE {
+        return true;
+    }
+    if h.epoch == 0 {
+        return true;
+    }
+    if h.uid == 0 {
+        return true;
+    }
+    h.board == 0
+}
+
+pub fn filled(h: Header) -> bool
+    ensures { λ r. ⌜ r ≡ isFilled h ⌝ }
+{
+    if has_zero(h) {
         return false;
     }
-    kind <= Header::UPDATE
+    h.kind <= Header::DELETE
+}
+
+pub fn payload(h: Header) -> bool
+    ensures { λ r. ⌜ r ≡ isPayload h ⌝ }
+{
+    if has_zero(h) {
+        return false;
+    }
+    h.kind <= Header::UPDATE
 }

@@ -11,7 +11,7 @@ use Rattle.search.specs.First.{found, Sought, sought-start, sought-next, sought
 use Rattle.search.specs.Some.{some-hit, some-end}
 use Rattle.search.specs.Least.{nearer, Lowering, lowering-start, lowering-hit, lowering-pass, lowering-end}
 use Rattle.image.specs.declared.header.Header.{Header}
-use Rattle.image.specs.Layout.{queueBoard, filledKind, payloadKind, header, keyAt}
+use Rattle.image.specs.Layout.{queueBoard, isFilled, isPayload, header, keyAt}
 use Rattle.image.specs.Requires.{boardAt, Slot, HeaderFits, slot, header-fits}
 use Rattle.transient.specs.declared.sizes.Sizes.{Sizes}
 use Rattle.transient.specs.Layout.{retiredIn}
@@ -32,29 +32,29 @@ shaped-header y h = header-fits (y .working) h
 module _ (wk : List ℕ) (e s : ℕ) {h : Header} (at : h ≡ header wk s) where
   pub newer-other : (h .board ≡ queueBoard → ⊥) → false ≡ entryNewerAt wk e s
   unfolding entryNewerAt
-  newer-other d = rw (← at, ne-eqb (h .board) queueBoard d) (sym (and-false (filledKind (h .kind))))
+  newer-other d = rw (← at, ne-eqb (h .board) queueBoard d) (sym (and-false (isFilled h)))
 
   module _ (d : h .board ≡ queueBoard) where
     pub newer-older : h .epoch ≤ e → false ≡ entryNewerAt wk e s
     unfolding entryNewerAt
-    newer-older l = rw (← at, eq-eqb (h .board) queueBoard d, le-ltb e (h .epoch) l) (sym (and-false (filledKind (h .kind))))
+    newer-older l = rw (← at, eq-eqb (h .board) queueBoard d, le-ltb e (h .epoch) l) (sym (and-false (isFilled h)))
 
     pub newer-none : e < h .epoch → e ≡ 0 → false ≡ entryNewerAt wk e s
     unfolding entryNewerAt
-    newer-none l q = rw (← at, eq-eqb (h .board) queueBoard d, lt-ltb e (h .epoch) l, eq-eqb e 0 q) (sym (and-false (filledKind (h .kind))))
+    newer-none l q = rw (← at, eq-eqb (h .board) queueBoard d, lt-ltb e (h .epoch) l, eq-eqb e 0 q) (sym (and-false (isFilled h)))
 
-    pub newer-filled : {f : Bool} → e < h .epoch → (e ≡ 0 → ⊥) → f ≡ filledKind (h .kind) → f ≡ entryNewerAt wk e s
+    pub newer-filled : {f : Bool} → e < h .epoch → (e ≡ 0 → ⊥) → f ≡ isFilled h → f ≡ entryNewerAt wk e s
     unfolding entryNewerAt
-    newer-filled l o q = rw (← at, eq-eqb (h .board) queueBoard d, lt-ltb e (h .epoch) l, ne-eqb e 0 o) (q ∙ sym (and-true (filledKind (h .kind))))
+    newer-filled l o q = rw (← at, eq-eqb (h .board) queueBoard d, lt-ltb e (h .epoch) l, ne-eqb e 0 o) (q ∙ sym (and-true (isFilled h)))
 
 module _ (z : Sizes) (tb : Table) (s : ℕ) {h : Header} (at : h ≡ header (tb .working) s) where
   pub entry-other : (h .board ≡ queueBoard → ⊥) → false ≡ entryAt z tb s
   unfolding entryAt
   entry-other d =
       rw (← at, ne-eqb (h .board) queueBoard d, and-false (eqb (retiredIn z (tb .transient) s) 0))
-      (sym (and-false (payloadKind (h .kind))))
+      (sym (and-false (isPayload h)))
 
-  module _ {p : Bool} (d : h .board ≡ queueBoard) (pl : p ≡ payloadKind (h .kind)) where
+  module _ {p : Bool} (d : h .board ≡ queueBoard) (pl : p ≡ isPayload h) where
     pub entry-not : p ≡ false → false ≡ entryAt z tb s
     unfolding entryAt
     entry-not e = rw (← at, ← pl, e)

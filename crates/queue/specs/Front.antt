@@ -7,7 +7,7 @@ use Rattle.search.specs.First.{whereFound}
 use Rattle.search.specs.Some.{anyOf}
 use Rattle.search.specs.Least.{leastOf}
 use Rattle.search.specs.declared.Found.{Found}
-use Rattle.image.specs.Layout.{queueBoard, filledKind, payloadKind, header, keyAt}
+use Rattle.image.specs.Layout.{queueBoard, isFilled, isPayload, header, keyAt}
 use Rattle.transient.specs.declared.sizes.Sizes.{Sizes}
 use Rattle.transient.specs.Layout.{retiredIn}
 use Rattle.transient.specs.Store.{Table}
@@ -16,12 +16,12 @@ use Rattle.table.specs.declared.find.Lookup.the-variants.{Later, Live, Absent}
 
 -- refusal 9 of all three: "with an operation open, .. if any filled board 2 slot is labelled above its epoch"; e is 0 for none open
 unfoldable pub entryNewerAt : List ℕ → ℕ → ℕ → Bool
-entryNewerAt wk e s = filledKind (header wk s .kind) && (eqb (header wk s .board) queueBoard && (ltb e (header wk s .epoch) && not (eqb e 0)))
+entryNewerAt wk e s = isFilled (header wk s) && (eqb (header wk s .board) queueBoard && (ltb e (header wk s .epoch) && not (eqb e 0)))
 
 -- "A payload is live when its kind is 1 or 2 and it is not retired.": an entry of the queue
 unfoldable pub entryAt : Sizes → Table → ℕ → Bool
 entryAt z tb s =
-    payloadKind (header (tb .working) s .kind) && (eqb (retiredIn z (tb .transient) s) 0 && eqb (header (tb .working) s .board) queueBoard)
+    isPayload (header (tb .working) s) && (eqb (retiredIn z (tb .transient) s) 0 && eqb (header (tb .working) s .board) queueBoard)
 
 -- "the front is the live entry with the smallest" order number; of several the lowest slot
 unfoldable pub frontSlot : Sizes → Table → Found

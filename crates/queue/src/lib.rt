@@ -24,7 +24,7 @@ fn newer_at(working: &[u32], n: usize, e: u32, s: usize) -> bool
             if e == 0 {
                 return false;
             }
-            image::header::filled(h.kind)
+            image::header::filled(h)
         } else {
             false
         }
@@ -40,7 +40,7 @@ fn entry_at(working: &[u32], transient: &[u32], z: Sizes, s: usize) -> bool
 {
     let held = image::header::header_at(working, z.n, s);
     if held.board == Header::QUEUE {
-        if image::header::payload(held.kind) {
+        if image::header::payload(held) {
             transient::notes::retired_in(transient, z, s) == 0
         } else {
             false

@@ -1,58 +1,46 @@
--- A whole recovery completes and leaves just the survivors, whatever working and notes hold before each of its calls.
--- The idea: each call that goes on leaves one filled slot less.
-use Prim.Native.Nat.{ℕ, zero, suc, _+_, _≤_, _<_}
-use mathlib.Core.Path.{_≡_, refl, sym, _∙_}
+-- A whole recovery completes and leaves just the survivors, whatever working and notes hold before each of its calls, and however often
+-- it is cut. The idea: each call that goes on leaves one header less that is not zeros, and a cut none more.
+use Prim.Native.Nat.{ℕ, zero, suc, _+_, _-_, _≤_, _<_}
+use mathlib.Core.Path.{_≡_, refl, sym, ap, _∙_}
 use mathlib.Core.Bool.{true}
 use mathlib.Core.Logic.{_⊎_, inl, inr, ⊎-elim}
 use mathlib.Core.List.{List}
 use lib.ListN.{length}
-use native.Mathlib.Nat.{eq-or-lt-of-le}
+use borrow.Author.Tests.{not-true}
 use native.Mathlib.Omega.{arith}
+use native.Mathlib.Decide.{ℕ-discrete}
+use Rattle.search.specs.Bools.{never, refuted, not-is-true}
 use Rattle.search.specs.First.{found-cases}
-use Rattle.search.specs.Count.{count, count-top}
+use Rattle.search.specs.Count.{count, count-top, count-mono}
 use Rattle.search.specs.declared.Found.{Found}
 use Rattle.search.specs.declared.Found.the-variants.{At, Nothing}
 use Rattle.reply.specs.declared.Check.{Check}
 use Rattle.reply.specs.declared.Check.the-variants.{Accepted, Refused}
 use Rattle.reply.specs.declared.Refusal.{Refusal}
-use Rattle.image.specs.Layout.{slotsOf, widthOf, freeHeader}
+use Rattle.image.specs.declared.header.Header.{Header}
+use Rattle.image.specs.Layout.{slotsOf, widthOf, isBlank, hasZero, header, freeHeader}
 use Rattle.image.specs.Line.{headerLine, storeLine}
+use Rattle.image.specs.Requires.{header-fits}
+use Rattle.image.specs.Laws.{header-other}
+use Rattle.image.specs.Whole.{blank-says}
+use Rattle.image.specs.Torn.{Mixed, torn-same, Remains, torn-freed}
 use Rattle.transient.specs.Store.{Store, store, Outcome, afterCheck}
 use Rattle.survival.specs.Survivors.{survivor}
 use Rattle.acceptance.specs.Accept.{imageCheck}
+use Rattle.acceptance.specs.Sound.{accepted-says}
 use Rattle.recovery.specs.Recover.{nextFreed, lengthsFit, recoverCheck, freeing, recover}
+use Rattle.recovery.specs.Recovering.{AnyWords, call, left, Completes, Reached, at-first, went-on, was-cut}
 use Rattle.recovery.specs.Requires.{finished}
-use Rattle.recovery.specs.Steps.{SameSurvivors, filledAt, step-keeps, step-accepted, step-lowers, done-survivors}
+use Rattle.recovery.specs.Steps.{SameSurvivors, nonzeroAt, next-spent, free-keeps, free-accepted, step-lowers, done-survivors}
 use Rattle.recovery.specs.declared.Recovery.{Recovery}
 use Rattle.recovery.specs.declared.Recovery.the-variants.{WentOn, Done, Declined}
 
--- "working and notes hold any words. So too in recovery": what they hold before call i, of lengths that fit the lasting image l
-pub record AnyWords (l : List ℕ) : Type 0 where
-  pub working : ℕ → List ℕ
-  pub transient : ℕ → List ℕ
-  pub fit : (i : ℕ) → lengthsFit (length (working i)) l (length (transient i)) ≡ true
-
--- "A whole recovery equals these calls repeated": the lasting image before call i is l at first, then what the call before left
-unfoldable pub lasting : {l : List ℕ} → AnyWords l → ℕ → List ℕ
-lasting {l} any zero = l
-lasting any (suc i) = recover (store (any .working i) (lasting any i) (any .transient i)) .store .persistent
-
-unfoldable pub call : {l : List ℕ} → AnyWords l → ℕ → Outcome Recovery
-call any i = recover (store (any .working i) (lasting any i) (any .transient i))
-
--- recovery "completes when no recover call declines and at most N reply went on before one replies done": `before` calls go on
-pub record Completes {l : List ℕ} (any : AnyWords l) : Type 0 where
-  pub before : ℕ
-  pub at-most : before ≤ slotsOf l
-  pub went-on : (i : ℕ) → i < before → call any i .reply ≡ WentOn
-  pub done : call any before .reply ≡ Done
-
--- what the call that replies "done" leaves: in lasting the survivors of l and no other filled slot, in working a copy, the notes
+-- what the call that replies "done" leaves: in lasting the survivors of l and zeros in all other headers, in working a copy, the notes
 -- (of `words` words) set
 pub record Rebuilt (l : List ℕ) (words : ℕ) (st : Store) : Type 0 where
   pub same : SameSurvivors l (st .persistent)
   pub accepted : imageCheck (st .persistent) ≡ Accepted
-  pub just : (s : ℕ) → s < slotsOf l → filledAt (st .persistent) s ≡ survivor l (slotsOf l) s
+  pub just : (s : ℕ) → s < slotsOf l → nonzeroAt (st .persistent) s ≡ survivor l (slotsOf l) s
   pub rest : st ≡ finished (st .persistent) words (slotsOf l) (widthOf l)
 
 -- ---- survivors that stay the same from image to image
@@ -84,32 +72,59 @@ same-trans {l} {m} {k} a b =
       values = λ s. (rw (a .slots, a .width) at (b .values s)) ∙ a .values s;
     }
 
--- ---- l′ is what i calls that went on made of l
-record OnTheWay (l : List ℕ) (i : ℕ) (l′ : List ℕ) : Type 0 where
-  same : SameSurvivors l l′
-  ok : imageCheck l′ ≡ Accepted
-  lowered : count (filledAt l′) (slotsOf l) + i ≡ count (filledAt l) (slotsOf l)
+-- ---- a step of recovery, and what a cut leaves of it
+free-zero : hasZero freeHeader ≡ true
+unfolding hasZero
+free-zero = refl
 
-setting-out : (l : List ℕ) → imageCheck l ≡ Accepted → OnTheWay l 0 l
-setting-out l ok = record { same = same-refl l; ok = ok; lowered = omega arith }
+module _ (a : List ℕ) (s : ℕ) (ok : imageCheck a ≡ Accepted) (next : nextFreed a (slotsOf a) ≡ At s) where
+  abbrev after : List ℕ
+  after = storeLine a (headerLine s freeHeader)
 
-one-further : {l l′ : List ℕ} {i s : ℕ} → OnTheWay l i l′ → nextFreed l′ (slotsOf l′) ≡ At s → OnTheWay l (suc i) (storeLine l′ (headerLine s freeHeader))
-one-further {l} {l′} {i} {s} o next =
-    let down = rw (o .same .slots) at (step-lowers l′ s (o .ok) next) in
+  step-keeps : SameSurvivors a after
+  step-keeps = free-keeps a s freeHeader free-zero ok (next-spent a (slotsOf a) s next)
+
+  step-accepted : imageCheck after ≡ Accepted
+  step-accepted = free-accepted a s freeHeader free-zero ok (next-spent a (slotsOf a) s next)
+
+-- what is zeros in the one image stays so in the other
+record Fewer (a b : List ℕ) : Type 0 where
+  same : SameSurvivors a b
+  ok : imageCheck b ≡ Accepted
+  few : count (nonzeroAt b) (slotsOf a) ≤ count (nonzeroAt a) (slotsOf a)
+
+mixed-blank : {x g : Header} → Mixed x g freeHeader → isBlank g ≡ true → isBlank x ≡ true
+unfolding isBlank
+mixed-blank {x} {g} m b =
+    let e = blank-says g b in
+    let k = zero-of (m .kind) (ap (λ (y : Header). y .kind) e) in
+    let f = zero-of (m .epoch) (ap (λ (y : Header). y .epoch) e) in
+    let u = zero-of (m .uid) (ap (λ (y : Header). y .uid) e) in
+    let d = zero-of (m .board) (ap (λ (y : Header). y .board) e) in
+    rw (k, f, u, d)
+  where
+    zero-of : {p q : ℕ} → (p ≡ q) ⊎ (p ≡ 0) → q ≡ 0 → p ≡ 0
+    zero-of (inl r) e = r ∙ e
+    zero-of (inr r) e = r
+
+torn-fewer : {a b : List ℕ} {s : ℕ} → imageCheck a ≡ Accepted → nextFreed a (slotsOf a) ≡ At s → Remains a s b → Fewer a b
+unfolding nonzeroAt
+torn-fewer {a} {b} {s} ok next r =
+    let p = next-spent a (slotsOf a) s next in
     record {
-      same = same-trans (o .same) (step-keeps l′ s (o .ok) next);
-      ok = step-accepted l′ s (o .ok) next;
-      lowered = omega arith;
+      same = rw (← r .is) at (free-keeps a s (header b s) (r .zero) ok p);
+      ok = rw (← r .is) at (free-accepted a s (header b s) (r .zero) ok p);
+      few = count-mono (nonzeroAt b) (nonzeroAt a) (slotsOf a) (λ i h. lower i);
     }
+  where
+    other : (i : ℕ) → (i ≡ s → ⊥) → header b i ≡ header a i
+    other i d = rw (← r .is) at (header-other a s i (header b s) d)
 
-arrived : {l l′ : List ℕ} {i : ℕ} (words : ℕ) → OnTheWay l i l′ → nextFreed l′ (slotsOf l′) ≡ Nothing → Rebuilt l words (finished l′ words (slotsOf l′) (widthOf l′))
-unfolding finished
-arrived {l} {l′} words o none =
-    let just : (s : ℕ) → s < slotsOf l → survivor l′ (slotsOf l) s ≡ filledAt l′ s = rw (o .same .slots) at (done-survivors l′ none) in
-    record { same = o .same; accepted = o .ok; just = λ s h. sym (just s h) ∙ o .same .survivors s h; rest = rw (o .same .slots, o .same .width) }
-
-way-bound : {l l′ : List ℕ} {i : ℕ} → OnTheWay l i l′ → i ≤ slotsOf l
-way-bound {l} o = omega (arith, count-top (filledAt l) (slotsOf l))
+    lower : (i : ℕ) → nonzeroAt b i ≡ true → nonzeroAt a i ≡ true
+    lower i v = elim (ℕ-discrete i s) [
+      | yes e ↦ rw e (not-is-true (refuted (isBlank (header a s)) (λ q. never _ (mixed-blank (r .mixed) q) (not-true _ (rw e at v)))))
+      | no d ↦ rw (← other i d) v
+    ]
 
 -- ---- one call on an accepted image: it does not decline
 not-declined : (w l t : List ℕ) → imageCheck l ≡ Accepted → lengthsFit (length w) l (length t) ≡ true
@@ -117,65 +132,112 @@ not-declined : (w l t : List ℕ) → imageCheck l ≡ Accepted → lengthsFit (
 unfolding recover recoverCheck
 not-declined w l t ok fit = rw (fit, ok)
 
-module _ (l : List ℕ) (ok : imageCheck l ≡ Accepted) (any : AnyWords l) where
-  -- call i goes on, or it is the one that is done
-  data Call (i : ℕ) : Type 0 where
-    on : call any i .reply ≡ WentOn → OnTheWay l (suc i) (lasting any (suc i)) → Call i
-    ends : call any i .reply ≡ Done → Rebuilt l (length (any .transient i)) (call any i .store) → Call i
+-- it goes on, or it is the one that is done
+data Call (a : List ℕ) (any : AnyWords a) : Type 0 where
+  goes : (s : ℕ) → nextFreed a (slotsOf a) ≡ At s → call a any .reply ≡ WentOn → left a any ≡ storeLine a (headerLine s freeHeader) → Call a any
+  ends : nextFreed a (slotsOf a) ≡ Nothing → call a any .reply ≡ Done → left a any ≡ a → call a any .store ≡ finished a (length (any .transient)) (slotsOf a) (widthOf a) → Call a any
 
-  lasting-next : (i : ℕ) → lasting any (suc i) ≡ call any i .store .persistent
-  unfolding lasting call
-  lasting-next i = refl
+call-cases : (a : List ℕ) → imageCheck a ≡ Accepted → (any : AnyWords a) → Call a any
+unfolding finished
+call-cases a ok any = go (found-cases (nextFreed a (slotsOf a)))
+  where
+    is : call a any ≡ freeing (nextFreed a (slotsOf a)) (store (any .working) a (any .transient)) (slotsOf a) (widthOf a)
+    is = not-declined (any .working) a (any .transient) ok (any .fit)
 
-  call-cases : (i : ℕ) → OnTheWay l i (lasting any i) → Call i
-  unfolding call lengthsFit finished
-  call-cases i o = go (found-cases (nextFreed l′ (slotsOf l′)))
+    found : {f : Found} → nextFreed a (slotsOf a) ≡ f → call a any ≡ freeing f (store (any .working) a (any .transient)) (slotsOf a) (widthOf a)
+    found e = is ∙ ap (λ f. freeing f (store (any .working) a (any .transient)) (slotsOf a) (widthOf a)) e
+
+    go : ((s : ℕ) × (nextFreed a (slotsOf a) ≡ At s)) ⊎ (nextFreed a (slotsOf a) ≡ Nothing) → Call a any
+    go (inl (s, e)) = goes s e (ap (λ (o : Outcome Recovery). o .reply) (found e)) (ap (λ (o : Outcome Recovery). o .store .persistent) (found e))
+    go (inr e) = ends e (ap (λ (o : Outcome Recovery). o .reply) (found e)) (ap (λ (o : Outcome Recovery). o .store .persistent) (found e)) (ap (λ (o : Outcome Recovery). o .store) (found e))
+
+-- ---- a is what recovery from l has come to, k calls having gone on
+record OnTheWay (l : List ℕ) (k : ℕ) (a : List ℕ) : Type 0 where
+  same : SameSurvivors l a
+  ok : imageCheck a ≡ Accepted
+  few : count (nonzeroAt a) (slotsOf l) + k ≤ slotsOf l
+
+setting-out : (l : List ℕ) → imageCheck l ≡ Accepted → OnTheWay l 0 l
+setting-out l ok = record { same = same-refl l; ok = ok; few = omega (arith, count-top (nonzeroAt l) (slotsOf l)) }
+
+one-further : {l a : List ℕ} {k s : ℕ} → OnTheWay l k a → nextFreed a (slotsOf a) ≡ At s → OnTheWay l (suc k) (storeLine a (headerLine s freeHeader))
+one-further {l} {a} {k} {s} o next =
+    let down = rw (o .same .slots) at (step-lowers a s (o .ok) next) in
+    record {
+      same = same-trans (o .same) (step-keeps a s (o .ok) next);
+      ok = step-accepted a s (o .ok) next;
+      few = omega (arith, o .few);
+    }
+
+no-further : {l a b : List ℕ} {k : ℕ} → OnTheWay l k a → Fewer a b → OnTheWay l k b
+no-further o f =
+    let few = rw (o .same .slots) at (f .few) in
+    record { same = same-trans (o .same) (f .same); ok = f .ok; few = omega (arith, o .few) }
+
+arrived : {l a : List ℕ} {k : ℕ} (words : ℕ) → OnTheWay l k a → nextFreed a (slotsOf a) ≡ Nothing → Rebuilt l words (finished a words (slotsOf a) (widthOf a))
+unfolding finished
+arrived {l} {a} words o none =
+    let just : (s : ℕ) → s < slotsOf l → survivor a (slotsOf l) s ≡ nonzeroAt a s = rw (o .same .slots) at (done-survivors a none) in
+    record { same = o .same; accepted = o .ok; just = λ s h. sym (just s h) ∙ o .same .survivors s h; rest = rw (o .same .slots, o .same .width) }
+
+-- a reply that is not this one
+other-reply : {A : Type 0} → _≡_ {A = Recovery} Done WentOn → A
+other-reply e = let z : _≡_ {A = ℕ} 0 1 = cc in absurd (omega arith)
+
+module _ (l : List ℕ) (ok : imageCheck l ≡ Accepted) where
+  way : {k : ℕ} {a : List ℕ} → Reached l k a → OnTheWay l k a
+  way at-first = setting-out l ok
+  way (went-on {k} {a} r any e) = go (way r)
     where
-      l′ : List ℕ
-      l′ = lasting any i
-
-      is : call any i ≡ freeing (nextFreed l′ (slotsOf l′)) (store (any .working i) l′ (any .transient i)) (slotsOf l′) (widthOf l′)
-      is = not-declined (any .working i) l′ (any .transient i) (o .ok) (rw (o .same .long, o .same .slots) (any .fit i))
-
-      go : ((s : ℕ) × (nextFreed l′ (slotsOf l′) ≡ At s)) ⊎ (nextFreed l′ (slotsOf l′) ≡ Nothing) → Call i
-      go (inl (s, e)) = on (rw (is, e)) (rw (lasting-next i, is, e) (one-further o e))
-      go (inr e) = ends (rw (is, e)) (rw (is, e) (arrived (length (any .transient i)) o e))
-
-  -- ---- the calls together: the first k go on
-  abbrev AllOn : ℕ → Type 0
-  AllOn k = (i : ℕ) → i < k → call any i .reply ≡ WentOn
-
-  reached : (i : ℕ) → AllOn i → OnTheWay l i (lasting any i)
-  unfolding lasting
-  reached zero w = setting-out l ok
-  reached (suc i) w = go (call-cases i (reached i (λ j h. w j (omega arith))))
+      go : OnTheWay l k a → OnTheWay l (suc k) (left a any)
+      go o = elim (call-cases a (o .ok) any) [
+        | goes s next g is ↦ rw is (one-further o next)
+        | ends next d q is ↦ other-reply (sym d ∙ e)
+      ]
+  way (was-cut {k} {a} {b} r any t) = go (way r)
     where
-      go : Call i → OnTheWay l (suc i) (lasting any (suc i))
-      go (on e o) = o
-      go (ends e r) = let d = w i (omega arith) in let z : _≡_ {A = ℕ} 0 1 = cc in absurd (omega arith)
+      go : OnTheWay l k a → OnTheWay l k b
+      go o = elim (call-cases a (o .ok) any) [
+        | goes s next g is ↦
+            ⊎-elim (λ (e : b ≡ a). rw e o) (λ (q : Remains a s b). no-further o (torn-fewer (o .ok) next q))
+            (torn-freed (header-fits (accepted-says a (o .ok) .sized) (next-spent a (slotsOf a) s next .below)) (rw is at t))
+        | ends next d q is ↦ rw (torn-same (rw q at t)) o
+      ]
 
-  -- done after i calls, or one call more
-  done-or : (i : ℕ) → AllOn i → Call i → (AllOn (suc i) → i < slotsOf l → Completes any) → Completes any
-  done-or i w (ends e r) further = record { before = i; at-most = way-bound (reached i w); went-on = w; done = e }
-  done-or i w (on e o) further =
-      further (λ j h. ⊎-elim (λ (q : j ≡ i). rw q e) (λ (b : j < i). w j b) (eq-or-lt-of-le (omega arith))) (way-bound o)
+-- so many calls more are enough
+completes-in : (more : ℕ) (a : List ℕ) → imageCheck a ≡ Accepted → count (nonzeroAt a) (slotsOf a) ≤ more → Completes more a
+unfolding Completes
+completes-in zero a ok h = λ any. elim (call-cases a ok any) [
+  | goes s next g is ↦ absurd (omega (arith, h, step-lowers a s ok next))
+  | ends next d q is ↦ d
+]
+completes-in (suc more) a ok h = λ any. elim (call-cases a ok any) [
+  | goes s next g is ↦ inr (g, rw is (completes-in more (storeLine a (headerLine s freeHeader)) (step-accepted a s ok next) (fewer s next)))
+  | ends next d q is ↦ inl d
+]
+  where
+    fewer : (s : ℕ) → nextFreed a (slotsOf a) ≡ At s
+        → count (nonzeroAt (storeLine a (headerLine s freeHeader))) (slotsOf (storeLine a (headerLine s freeHeader))) ≤ more
+    fewer s next = rw (step-keeps a s ok next .slots) (omega (arith, h, step-lowers a s ok next))
 
-  completes-after : (more i : ℕ) → slotsOf l ≤ more + i → AllOn i → Completes any
-  completes-after zero i m w = done-or i w (call-cases i (reached i w)) (λ w′ h. absurd (omega arith))
-  completes-after (suc more) i m w = done-or i w (call-cases i (reached i w)) (λ w′ h. completes-after more (suc i) (omega arith) w′)
+-- ---- the theorem: from an image that recovery accepts, with any words in working and notes before each call and with any cuts
+module _ {l a : List ℕ} {k : ℕ} (ok : imageCheck l ≡ Accepted) (r : Reached l k a) where
+  -- at most N calls reply "went on" ..
+  pub recovery-bound : k ≤ slotsOf l
+  recovery-bound = omega (arith, way l ok r .few)
 
-  rebuilds : (c : Completes any) → Call (c .before) → Rebuilt l (length (any .transient (c .before))) (call any (c .before) .store)
-  rebuilds c (on e o) = let d = c .done in let z : _≡_ {A = ℕ} 0 1 = cc in absurd (omega arith)
-  rebuilds c (ends e r) = r
+  -- .. none declines, and where cuts cease one replies "done"
+  pub recovery-completes : Completes (slotsOf l - k) a
+  recovery-completes =
+      let o = way l ok r in
+      completes-in (slotsOf l - k) a (o .ok) (rw (o .same .slots) (omega (arith, o .few)))
 
--- ---- the theorem: from an image that recovery accepts, with any words in working and notes before each call, recovery completes
-pub recovery-completes : (l : List ℕ) → imageCheck l ≡ Accepted → (any : AnyWords l) → Completes any
-recovery-completes l ok any = completes-after l ok any (slotsOf l) 0 (omega arith) (λ i h. absurd (omega arith))
-
--- .. and once it has, both images hold the survivors of l and nothing else
-pub recovery-rebuilds : (l : List ℕ) → imageCheck l ≡ Accepted → (any : AnyWords l) (c : Completes any)
-    → Rebuilt l (length (any .transient (c .before))) (call any (c .before) .store)
-recovery-rebuilds l ok any c = rebuilds l ok any c (call-cases l ok any (c .before) (reached l ok any (c .before) (c .went-on)))
+  -- .. and then both images hold the survivors of l and nothing else
+  pub recovery-rebuilds : (any : AnyWords a) → call a any .reply ≡ Done → Rebuilt l (length (any .transient)) (call a any .store)
+  recovery-rebuilds any e = elim (call-cases a (way l ok r .ok) any) [
+    | goes s next g is ↦ other-reply (sym e ∙ g)
+    | ends next d q is ↦ rw is (arrived (length (any .transient)) (way l ok r) next)
+  ]
 
 -- ---- a refused recover call leaves the store as it was
 pub recover-keeps : (st : Store) (r : Refusal) → recover st .reply ≡ Declined r → recover st .store ≡ st

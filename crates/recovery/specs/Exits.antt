@@ -1,11 +1,11 @@
 -- The ways out of recover's functions.
-use Prim.Native.Nat.{ℕ, zero, suc, _+_, _≤_, _<_, _^_}
+use Prim.Native.Nat.{ℕ, _+_, _≤_, _<_, _^_}
 use mathlib.Core.Path.{_≡_, refl, sym, ap, _∙_}
-use mathlib.Core.Bool.{Bool, true, false, not, _&&_}
+use mathlib.Core.Bool.{Bool, true, false, not, _&&_, and-false}
 use mathlib.Core.Logic.{⊎-elim}
 use mathlib.Core.List.{List}
 use lib.ListN.{length, getD}
-use lib.Dec.{ltb, leb, eqb}
+use lib.Dec.{leb, eqb}
 use mir.Val.{Fits}
 use mir.Syntax.{w32}
 use borrow.Author.Tests.{lt-ltb, le-ltb, eq-eqb, ne-eqb, eqb-true, leb-true, not-false}
@@ -21,10 +21,11 @@ use Rattle.reply.specs.declared.Refusal.{Refusal}
 use Rattle.reply.specs.declared.Refusal.the-variants.{BadSizes, BadClock}
 use Rattle.reply.specs.Refusals.{refuse, byCheck, not-refused}
 use Rattle.image.specs.declared.header.Header.{Header}
-use Rattle.image.specs.Layout.{mostSlots, mostNumber, queueBoard, filledKind, header, keyAt, slotsOf, widthOf, clockOf, shapeOk, clockOk, freeHeader}
+use Rattle.image.specs.Layout.{mostSlots, mostNumber, queueBoard, isBlank, isPayload, header, keyAt, slotsOf, widthOf, clockOf, shapeOk, clockOk, freeHeader}
 use Rattle.image.specs.Line.{headerLine, stored, storeLine}
 use Rattle.image.specs.declared.name.Name.{Name}
 use Rattle.image.specs.Name.{nameAt, misnamed, name-is, misnamed-false}
+use Rattle.image.specs.Whole.{payload-filled}
 use Rattle.image.specs.Requires.{HeaderFits, Slot}
 use Rattle.image.specs.Laws.{shaped, stored-whole}
 use Rattle.transient.specs.Layout.{threadsOf, threadsOk, blank}
@@ -35,7 +36,7 @@ use Rattle.survival.specs.Requires.{keptAnti, Headers, Marked, AllMarked, SlotM
 use Rattle.survival.specs.Laws.{flag-is}
 use Rattle.acceptance.specs.Requires.{headCheck, nameless, slotsCheck}
 use Rattle.acceptance.specs.Laws.{image-is}
-use Rattle.acceptance.specs.Sound.{Sound, sound, uid-top}
+use Rattle.acceptance.specs.Sound.{Sound, sound, filled-proper}
 use Rattle.recovery.specs.declared.Recovery.{Recovery}
 use Rattle.recovery.specs.declared.Recovery.the-variants.{WentOn, Done, Declined}
 use Rattle.recovery.specs.Recover.{antiAt, stale, nextFreed, nextUid, nextOrder, lengthsFit, recoverCheck, freeing, recover}
@@ -46,22 +47,31 @@ pub anti-is : (l : List ℕ) (s : ℕ) {c : ℕ} {r : Bool} → c ≡ clockOf l 
 unfolding antiAt keptAnti
 anti-is l s e h = rw (← e) h
 
-module _ (l : List ℕ) (n s : ℕ) (flags : List Bool) {h : Header} {f : Bool} (z : FlagAt l n s flags) (at : h ≡ header l s) (fl : f ≡ filledKind (h .kind)) where
-  pub stale-free : f ≡ false → false ≡ stale l n s
-  unfolding stale
-  stale-free e = rw (← at, ← fl, e)
+module _ (l : List ℕ) (n s : ℕ) (flags : List Bool) (z : FlagAt l n s flags) where
+  pub dies-not : getD flags s false ≡ true → false ≡ not (survivor l n s)
+  dies-not t = rw (flag-is (z .marked .flagged) (z .within) t)
 
-  pub stale-survives : f ≡ true → getD flags s false ≡ true → false ≡ stale l n s
-  unfolding stale
-  stale-survives e t = rw (← at, ← fl, e, flag-is (z .marked .flagged) (z .within) t)
+  pub dies-yes : getD flags s false ≡ false → true ≡ not (survivor l n s)
+  dies-yes t = rw (flag-is (z .marked .flagged) (z .within) t)
 
-  pub stale-anti : {a : Bool} → f ≡ true → getD flags s false ≡ false → a ≡ antiAt l s → a ≡ true → false ≡ stale l n s
+module _ (l : List ℕ) (n s : ℕ) {d : Bool} (de : d ≡ not (survivor l n s)) where
+  pub stale-survives : d ≡ false → false ≡ stale l n s
   unfolding stale
-  stale-anti e t k y = rw (← at, ← fl, e, flag-is (z .marked .flagged) (z .within) t, ← k, y)
+  stale-survives e = rw (← de, e) (sym (and-false (not (isBlank (header l s)))))
 
-  pub stale-yes : {a : Bool} → f ≡ true → getD flags s false ≡ false → a ≡ antiAt l s → a ≡ false → true ≡ stale l n s
-  unfolding stale
-  stale-yes e t k y = rw (← at, ← fl, e, flag-is (z .marked .flagged) (z .within) t, ← k, y)
+  module _ {h : Header} {b : Bool} (e : d ≡ true) (at : h ≡ header l s) (bl : b ≡ isBlank h) where
+    pub stale-blank : b ≡ true → false ≡ stale l n s
+    unfolding stale
+    stale-blank t = rw (← at, ← bl, t)
+
+    module _ {a : Bool} (f : b ≡ false) (k : a ≡ antiAt l s) where
+      pub stale-anti : a ≡ true → false ≡ stale l n s
+      unfolding stale
+      stale-anti y = rw (← at, ← bl, f, ← de, e, ← k, y)
+
+      pub stale-yes : a ≡ false → true ≡ stale l n s
+      unfolding stale
+      stale-yes y = rw (← at, ← bl, f, ← de, e, ← k, y)
 
 module _ (l : List ℕ) (n : ℕ) {f : Found} (st : f ≡ firstOf (stale l n) n) where
   pub freed-stale : {s : ℕ} → f ≡ At s → At s ≡ nextFreed l n
@@ -135,18 +145,8 @@ module _ (l : List ℕ) (n w s b : ℕ) (flags : List Bool) (z : SlotMarked l n 
       order-level u =
           rw (flag-is (z .flagged) (z .slot .within) t, board-read l n w s at, eq-eqb (name .board) queueBoard q, key-read l n w s at, le-ltb b (name .key) u)
 
--- the largest is no larger than what bounds those that pass
-largest-below : (p : ℕ → Bool) (f : ℕ → ℕ) (top k : ℕ) → ((i : ℕ) → i < k → p i ≡ true → f i ≤ top) → largest p f k ≤ top
-unfolding largest
-largest-below p f top zero h = omega arith
-largest-below p f top (suc k) h =
-    ⊎-elim
-    (λ (t : p k && ltb (largest p f k) (f k) ≡ true). rw t (h k (omega arith) (and-left (p k) _ t)))
-    (λ (u : p k && ltb (largest p f k) (f k) ≡ false). rw u (largest-below p f top k (λ i l. h i (omega arith))))
-    (cases (p k && ltb (largest p f k) (f k)))
-
 pub order-fits : (l : List ℕ) (n w : ℕ) (flags : List Bool) {b : ℕ} → Orders l n w flags → b ≡ largest (survivesOn l n queueBoard) (keyAt l n w) n → Fits w32 (b + 1)
-order-fits l n w flags z e = omega (arith, largest-below (survivesOn l n queueBoard) (keyAt l n w) mostNumber n (z .orders), e)
+order-fits l n w flags z e = omega (arith, largest-top (survivesOn l n queueBoard) (keyAt l n w) mostNumber n (z .orders), e)
 
 pub order-is : (l : List ℕ) (n w : ℕ) {b : ℕ} → b ≡ largest (survivesOn l n queueBoard) (keyAt l n w) n → b + 1 ≡ nextOrder l n w
 unfolding nextOrder
@@ -244,6 +244,12 @@ judged-headers z = headers-of (z .sized)
 pub judged-marked : {wk l t : List ℕ} {flags : List Bool} {n w : ℕ} → Judged wk l t n w → Marked l n flags → AllMarked l n w flags
 judged-marked z m = record { sized = z .sized; flagged = m .flagged }
 
+-- a survivor has its uid in range
+uid-top : {l : List ℕ} {n w i : ℕ} → Sound l n w → i < n → survivor l n i ≡ true → uidOf l i ≤ mostNumber
+unfolding survivor
+uid-top {l} {n} {w} {i} s h v =
+    filled-proper (clockOf l) (header l i) (payload-filled (header l i) (and-left (isPayload (header l i)) _ v)) (s .all-proper i h) .uid-hi
+
 -- an entry that survives has its order number in range
 order-top : {l : List ℕ} {n w i : ℕ} → Sound l n w → i < n → survivesOn l n queueBoard i ≡ true → keyAt l n w i ≤ mostNumber
 unfolding nameless survivesOn
@@ -261,7 +267,7 @@ judged-finishing {wk} {l} {t} {flags} {n} {w} z m c a =
     record {
       uids = record {
         marked = m;
-        uids = λ i h. uid-top (clockOf l) (header l i) (s .all-proper i h);
+        uids = λ i h v. uid-top s h v;
       };
       orders = record {
         marked = judged-marked z m;
@@ -299,4 +305,4 @@ module _ (wk l t : List ℕ) {k : Check} (c : k ≡ recoverEntryCheck (length wk
   unfolding recover recoverSized
   recover-goes n w a p q h = rw (recover-is wk l t, ← c, a, ← p, ← q) h
 
-pub ruleset steps = (tests, firsts, marks, climbs, flag-at, flag-header, flag-of, anti-is, stale-free, stale-survives, stale-anti, stale-yes, freed-stale, freed-anti, raise-miss, raise-up, raise-level, uid-fits, uid-is, order-miss, order-job, order-up, order-level, order-fits, order-is, order-slot, order-name, finish-marked, finish-header, finish-slots, finish-blank, finish-done, free-on, free-done, entry-shape, entry-working, entry-threads, entry-head, entry-first, entry-slots, judged, judged-long, judged-marked, judged-headers, judged-finishing, step-declines, step-goes, recover-declines, recover-goes)
+pub ruleset steps = (tests, firsts, marks, climbs, flag-at, flag-header, flag-of, anti-is, dies-not, dies-yes, stale-survives, stale-blank, stale-anti, stale-yes, freed-stale, freed-anti, raise-miss, raise-up, raise-level, uid-fits, uid-is, order-miss, order-job, order-up, order-level, order-fits, order-is, order-slot, order-name, finish-marked, finish-header, finish-slots, finish-blank, finish-done, free-on, free-done, entry-shape, entry-working, entry-threads, entry-head, entry-first, entry-slots, judged, judged-long, judged-marked, judged-headers, judged-finishing, step-declines, step-goes, recover-declines, recover-goes)

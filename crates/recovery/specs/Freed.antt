@@ -1,44 +1,26 @@
 -- Freeing a slot that does not survive leaves the survivors as they were, if whatever it beats is also beaten by another slot.
 use Prim.Native.Nat.{ℕ, _<_}
-use mathlib.Core.Path.{_≡_, refl, _∙_}
+use mathlib.Core.Path.{_≡_, _∙_}
 use mathlib.Core.Bool.{true, false, _&&_}
 use mathlib.Core.Logic.{_≢_}
-use lib.Dec.{leb, eqb}
-use borrow.Author.Tests.{leb-true, ltb-true, eqb-true, eqb-false, le-leb, lt-ltb, eq-eqb, not-true, not-false}
+use lib.Dec.{eqb}
+use borrow.Author.Tests.{ltb-true, eqb-true, eqb-false, lt-ltb, eq-eqb, not-true, not-false}
 use native.Mathlib.Omega.{arith}
 use native.Mathlib.Decide.{ℕ-discrete}
 use Rattle.search.specs.Bools.{never, refuted, same-test, and-left, and-right, and-both, not-is-true}
 use Rattle.search.specs.Some.{anyOf, some-at, some-one, some-none, none-some}
 use Rattle.image.specs.declared.header.Header.{Header}
-use Rattle.image.specs.Layout.{filledKind, payloadKind, freeHeader}
+use Rattle.image.specs.Layout.{hasZero, isFilled, isPayload}
+use Rattle.image.specs.Whole.{payload-filled, payload-not-anti, filled-payload, zero-unfilled, zero-no-payload}
 use Rattle.survival.specs.Survivors.{kept, beats}
 use Rattle.survival.specs.Requires.{keptAnti, wins, survives}
-use Rattle.acceptance.specs.Accept.{blankHeader, proper, versionBelow}
+use Rattle.acceptance.specs.Accept.{proper, versionBelow}
 use Rattle.acceptance.specs.Requires.{sameVersion}
 
--- ---- kinds: the filled ones are the payloads and DELETE
-payload-filled : (k : ℕ) → payloadKind k ≡ true → filledKind k ≡ true
-unfolding payloadKind filledKind
-payload-filled k e =
-    let lo = leb-true 1 k (and-left (leb 1 k) _ e) in
-    let hi = leb-true k 2 (and-right (leb 1 k) _ e) in
-    and-both (le-leb 1 k lo) (le-leb k 3 (omega arith))
-
-payload-not-anti : (k : ℕ) → payloadKind k ≡ true → k ≡ 3 → ⊥
-unfolding payloadKind
-payload-not-anti k e q = omega (arith, leb-true k 2 (and-right (leb 1 k) _ e))
-
-filled-payload : (k : ℕ) → filledKind k ≡ true → (k ≡ 3 → ⊥) → payloadKind k ≡ true
-unfolding payloadKind filledKind
-filled-payload k e d =
-    let lo = leb-true 1 k (and-left (leb 1 k) _ e) in
-    let hi = leb-true k 3 (and-right (leb 1 k) _ e) in
-    and-both (le-leb 1 k lo) (le-leb k 2 (omega arith))
-
 -- ---- the tests, read as facts
-pub kept-filled : (c : ℕ) (h : Header) → kept c h ≡ true → filledKind (h .kind) ≡ true
+pub kept-filled : (c : ℕ) (h : Header) → kept c h ≡ true → isFilled h ≡ true
 unfolding kept
-kept-filled c h e = and-left (filledKind (h .kind)) _ e
+kept-filled c h e = and-left (isFilled h) _ e
 
 version-kept : (c : ℕ) (h g : Header) → sameVersion c h g ≡ true → kept c g ≡ true
 unfolding sameVersion
@@ -77,14 +59,14 @@ beats-trans : {c : ℕ} {h g k : Header} → Beats c h g → Beats c g k → Bea
 beats-trans a b = record { is-kept = b .is-kept; one-uid = b .one-uid ∙ a .one-uid; later = omega arith }
 
 record Survives (c : ℕ) (h : Header) (hs : ℕ → Header) (n : ℕ) : Type 0 where
-  payload : payloadKind (h .kind) ≡ true
+  payload : isPayload h ≡ true
   is-kept : kept c h ≡ true
   unbeaten : (t : ℕ) → t < n → beats c h (hs t) ≡ false
 
 survives-says : (c : ℕ) (hs : ℕ → Header) (n s : ℕ) → survives c hs n s ≡ true → Survives c (hs s) hs n
 unfolding survives wins
 survives-says c hs n s e =
-    let p = payloadKind (hs s .kind) in
+    let p = isPayload (hs s) in
     let k = kept c (hs s) in
     let w = and-right p _ e in
     record {
@@ -98,13 +80,13 @@ unfolding survives wins
 says-survives {c} {hs} {n} s v =
     and-both (v .payload) (and-both (v .is-kept) (not-is-true (none-some (λ t. beats c (hs s) (hs t)) n (v .unbeaten))))
 
-pub survives-filled : (c : ℕ) (hs : ℕ → Header) (n s : ℕ) → survives c hs n s ≡ true → filledKind (hs s .kind) ≡ true
-survives-filled c hs n s e = payload-filled (hs s .kind) (survives-says c hs n s e .payload)
+pub survives-filled : (c : ℕ) (hs : ℕ → Header) (n s : ℕ) → survives c hs n s ≡ true → isFilled (hs s) ≡ true
+survives-filled c hs n s e = payload-filled (hs s) (survives-says c hs n s e .payload)
 
 -- ---- one slot freed
--- hs′ is hs but for slot s₀, which is free
+-- hs′ is hs but for slot s₀, which counts as free
 pub record Freed (hs hs′ : ℕ → Header) (s₀ : ℕ) : Type 0 where
-  pub here : hs′ s₀ ≡ freeHeader
+  pub here : hasZero (hs′ s₀) ≡ true
   pub there : (t : ℕ) → t ≢ s₀ → hs′ t ≡ hs t
 
 -- a slot other than s₀ that beats h
@@ -116,18 +98,18 @@ pub record Other (c : ℕ) (hs : ℕ → Header) (n s₀ : ℕ) (h : Header) : T
 
 -- every payload that s₀ beats is beaten by another slot too
 abbrev pub Covered : ℕ → (ℕ → Header) → ℕ → ℕ → Type 0
-Covered c hs n s₀ = (s : ℕ) → s < n → payloadKind (hs s .kind) ≡ true → beats c (hs s) (hs s₀) ≡ true → Other c hs n s₀ (hs s)
+Covered c hs n s₀ = (s : ℕ) → s < n → isPayload (hs s) ≡ true → beats c (hs s) (hs s₀) ≡ true → Other c hs n s₀ (hs s)
 
-free-not-kept : (c : ℕ) → kept c freeHeader ≡ false
-unfolding kept filledKind
-free-not-kept c = refl
+zero-not-kept : (c : ℕ) (h : Header) → hasZero h ≡ true → kept c h ≡ false
+unfolding kept
+zero-not-kept c h z = rw (zero-unfilled h z)
 
 module _ (c : ℕ) {hs hs′ : ℕ → Header} {s₀ : ℕ} (f : Freed hs hs′ s₀) where
   -- what is kept now is as it was
   kept-unmoved : (t : ℕ) → kept c (hs′ t) ≡ true → hs′ t ≡ hs t
   kept-unmoved t k =
       elim (ℕ-discrete t s₀) [
-        | yes e ↦ never _ (rw (e, f .here) at k) (free-not-kept c)
+        | yes e ↦ never _ (rw e at k) (zero-not-kept c (hs′ s₀) (f .here))
         | no d ↦ f .there t d
       ]
 
@@ -160,9 +142,9 @@ module _ (c : ℕ) {hs hs′ : ℕ → Header} {s₀ : ℕ} (f : Freed hs hs′ 
           (λ t. says-survives s (survived-before s l (survives-says c hs′ n s t)))
           (λ t. says-survives s (survives-on s (survives-says c hs n s t)))
 
-  -- a header that is free or was proper is proper
+  -- a header that counts as free or was proper is proper
   pub freed-proper : (t : ℕ) → proper c (hs t) ≡ true → proper c (hs′ t) ≡ true
-  unfolding proper blankHeader
+  unfolding proper
   freed-proper t p = elim (ℕ-discrete t s₀) [ yes e ↦ rw (e, f .here) | no d ↦ rw (f .there t d) p ]
 
   -- no version stands twice that did not before
@@ -177,12 +159,20 @@ module _ (c : ℕ) {hs hs′ : ℕ → Header} {s₀ : ℕ} (f : Freed hs hs′ 
       let twice = some-at (λ t. sameVersion c (hs s) (hs t)) s (o .at) (o .below) (rw was at (o .passes)) in
       never (versionBelow c hs s) (and-both (and-left (kept c (hs s)) _ z) twice) u)
 
--- ---- first pass: a filled slot that neither survives nor is a kept DELETE. Where it beats, it is a payload, and what beat it beats on.
+-- ---- a slot that counts as free already
+pub zero-dies : (c : ℕ) (hs : ℕ → Header) (n s₀ : ℕ) → hasZero (hs s₀) ≡ true → survives c hs n s₀ ≡ false
+unfolding survives
+zero-dies c hs n s₀ z = rw (zero-no-payload (hs s₀) z)
+
+pub zero-covered : (c : ℕ) (hs : ℕ → Header) (n s₀ : ℕ) → hasZero (hs s₀) ≡ true → Covered c hs n s₀
+zero-covered c hs n s₀ z s l p b = never _ (beats-says c (hs s) (hs s₀) b .is-kept) (zero-not-kept c (hs s₀) z)
+
+-- ---- first pass: a slot that neither survives nor is a kept DELETE. Where it beats, it is a payload, and what beat it beats on.
 pub stale-covered : (c : ℕ) (hs : ℕ → Header) (n s₀ : ℕ) → survives c hs n s₀ ≡ false → keptAnti c (hs s₀) ≡ false → Covered c hs n s₀
 unfolding survives wins keptAnti
 stale-covered c hs n s₀ dies plain s l p b =
     let e = beats-says c (hs s) (hs s₀) b in
-    let payload = filled-payload (hs s₀ .kind) (kept-filled c (hs s₀) (e .is-kept)) (eqb-false (hs s₀ .kind) 3 (rw (e .is-kept) at plain)) in
+    let payload = filled-payload (hs s₀) (kept-filled c (hs s₀) (e .is-kept)) (eqb-false (hs s₀ .kind) 3 (rw (e .is-kept) at plain)) in
     let lost : anyOf (λ t. beats c (hs s₀) (hs t)) n ≡ true = not-false _ (rw (payload, e .is-kept) at dies) in
     let o = some-one (λ t. beats c (hs s₀) (hs t)) n lost in
     let g = beats-says c (hs s₀) (hs (o .at)) (o .passes) in
@@ -197,12 +187,12 @@ stale-covered c hs n s₀ dies plain s l p b =
 pub anti-dies : (c : ℕ) (hs : ℕ → Header) (n s₀ : ℕ) → keptAnti c (hs s₀) ≡ true → survives c hs n s₀ ≡ false
 anti-dies c hs n s₀ a =
     refuted (survives c hs n s₀)
-    (λ t. payload-not-anti (hs s₀ .kind) (survives-says c hs n s₀ t .payload) (anti-says c (hs s₀) a .is-delete))
+    (λ t. payload-not-anti (hs s₀) (survives-says c hs n s₀ t .payload) (anti-says c (hs s₀) a .is-delete))
 
 pub anti-covered : (c : ℕ) (hs : ℕ → Header) (n s₀ : ℕ) → s₀ < n
-    → ((s : ℕ) → s < n → filledKind (hs s .kind) ≡ true → survives c hs n s ≡ false → keptAnti c (hs s) ≡ true)
+    → ((s : ℕ) → s < n → isFilled (hs s) ≡ true → survives c hs n s ≡ false → keptAnti c (hs s) ≡ true)
     → Covered c hs n s₀
 anti-covered c hs n s₀ l₀ only s l p b =
     let dies = refuted (survives c hs n s) (λ t. never _ b (survives-says c hs n s t .unbeaten s₀ l₀)) in
-    let a = anti-says c (hs s) (only s l (payload-filled (hs s .kind) p) dies) in
-    absurd (payload-not-anti (hs s .kind) p (a .is-delete))
+    let a = anti-says c (hs s) (only s l (payload-filled (hs s) p) dies) in
+    absurd (payload-not-anti (hs s) p (a .is-delete))

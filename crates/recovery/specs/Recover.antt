@@ -11,7 +11,7 @@ use Rattle.search.specs.declared.Found.the-variants.{At, Nothing}
 use Rattle.reply.specs.declared.Check.{Check}
 use Rattle.reply.specs.declared.Refusal.the-variants.{BadSizes}
 use Rattle.reply.specs.Refusals.{refuse, declinedNumber}
-use Rattle.image.specs.Layout.{queueBoard, filledKind, header, keyAt, slotsOf, widthOf, clockOf, freeHeader}
+use Rattle.image.specs.Layout.{queueBoard, isBlank, header, keyAt, slotsOf, widthOf, clockOf, freeHeader}
 use Rattle.image.specs.Line.{headerLine, storeLine}
 use Rattle.transient.specs.Store.{Store, Outcome, outcome, afterCheck}
 use Rattle.transient.specs.Layout.{threadsOk, blank}
@@ -24,9 +24,10 @@ use Rattle.recovery.specs.declared.Recovery.the-variants.{WentOn, Done, 
 unfoldable pub antiAt : List ℕ → ℕ → Bool
 antiAt l s = kept (clockOf l) (header l s) && eqb (header l s .kind) 3
 
--- "every filled slot that neither survives nor is a kept DELETE"
+-- "every filled slot that neither survives nor is a kept DELETE"; 02, No. 4: "Recovery's first pass zeroes what is left of such marks
+-- too", that is of those that count as free
 unfoldable pub stale : List ℕ → ℕ → ℕ → Bool
-stale l n s = filledKind (header l s .kind) && (not (survivor l n s) && not (antiAt l s))
+stale l n s = not (isBlank (header l s)) && (not (survivor l n s) && not (antiAt l s))
 
 -- "frees lasting marks one at a time: first, in slot order, every filled slot that neither survives nor is a kept DELETE;
 -- then, in slot order, the kept DELETEs"

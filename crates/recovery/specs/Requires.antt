@@ -11,7 +11,7 @@ use Rattle.image.specs.Layout.{mostNumber, queueBoard, header, keyAt}
 use Rattle.image.specs.Requires.{Sized}
 use Rattle.transient.specs.Layout.{headWords, blank}
 use Rattle.transient.specs.Store.{Store, store, Outcome, afterCheck}
-use Rattle.survival.specs.Survivors.{survivesOn}
+use Rattle.survival.specs.Survivors.{survivor, survivesOn}
 use Rattle.survival.specs.Requires.{Marked, AllMarked}
 use Rattle.acceptance.specs.Requires.{headCheck, slotsCheck}
 use Rattle.recovery.specs.Recover.{nextFreed, nextUid, nextOrder, lengthsFit, freeing}
@@ -27,7 +27,7 @@ recoverEntryCheck working l transient = refuse (not (lengthsFit working l transi
 
 pub record Uids (l : List ℕ) (n : ℕ) (flags : List Bool) : Type 0 where
   pub marked : Marked l n flags
-  pub uids : (s : ℕ) → s < n → uidOf l s ≤ mostNumber
+  pub uids : (s : ℕ) → s < n → survivor l n s ≡ true → uidOf l s ≤ mostNumber
 
 pub record Orders (l : List ℕ) (n w : ℕ) (flags : List Bool) : Type 0 where
   pub marked : AllMarked l n w flags

@@ -4,6 +4,7 @@ use reply::Check;
 use reply::Refusal;
 use search::Found;
 ghost use mathlib.Core.Path.{_≡_};
+ghost use mathlib.Core.Bool.{not};
 ghost use lib.ListN.{length};
 ghost use Rattle.search.specs.First.{firstOf};
 ghost use Rattle.search.specs.Largest.{raised};
@@ -28,12 +29,21 @@ fn anti_at(img: &[u32], n: usize, s: usize) -> bool
     survival::kept_anti_at(img, n, image::shape::clock(img), s)
 }
 
+fn dies_at(img: &[u32], flags: &[bool; 1024], n: usize, s: usize) -> bool
+    requires { ⌜ FlagAt (now img) n s (now flags) ⌝ }
+    ensures { λ r. ⌜ r ≡ not (survivor (now (img .entry)) n s) ⌝ }
+{
+    if flags[s] { false } else { true }
+}
+
+// A header that is not zeros and that nothing needs: what is left of one that counts as free is among these. The flag is looked at
+// first: on a full board most slots survive.
 fn stale_at(img: &[u32], flags: &[bool; 1024], n: usize, s: usize) -> bool
     requires { ⌜ FlagAt (now img) n s (now flags) ⌝ }
     ensures { λ r. ⌜ r ≡ stale (now (img .entry)) n s ⌝ }
 {
-    if image::header::filled(image::header::header_at(img, n, s).kind) {
-        if flags[s] {
+    if dies_at(img, flags, n, s) {
+        if image::header::blank(image::header::header_at(img, n, s)) {
             return false;
         }
         if anti_at(img, n, s) { false } else { true }

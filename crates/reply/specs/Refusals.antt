@@ -4,7 +4,7 @@ use mathlib.Core.Path.{_≡_, refl}
 use native.Mathlib.Omega.{arith}
 use mathlib.Core.Bool.{Bool, true, false, cond}
 use Rattle.reply.specs.declared.Refusal.{Refusal}
-use Rattle.reply.specs.declared.Refusal.the-variants.{BadSizes, BadClock, BadSlot, Duplicate, NoThread, AlreadyOpen, NotOpen, BadArgument, Newer, NoJob, JobExists, NoUid, Full, StillOpen, LastEpoch, NoLine, QueueEmpty}
+use Rattle.reply.specs.declared.Refusal.the-variants.{BadSizes, BadClock, BadSlot, Duplicate, NoThread, AlreadyOpen, NotOpen, BadArgument, Newer, NoJob, JobExists, NoUid, Full, StillOpen, LastEpoch, NoWord, QueueEmpty}
 use Rattle.reply.specs.declared.Check.{Check}
 use Rattle.reply.specs.declared.Check.the-variants.{Accepted, Refused}
 
@@ -25,7 +25,7 @@ refusalNumber NoUid = 12
 refusalNumber Full = 13
 refusalNumber StillOpen = 14
 refusalNumber LastEpoch = 15
-refusalNumber NoLine = 16
+refusalNumber NoWord = 16
 refusalNumber QueueEmpty = 17
 
 -- a case of the enum, told apart

@@ -28,7 +28,7 @@ pub enum Refusal {
     StillOpen,
     // the clock is at its end
     LastEpoch,
-    NoLine,
+    NoWord,
     QueueEmpty,
 }
 
@@ -57,7 +57,7 @@ pub fn number(r: Refusal) -> u32
         Refusal::Full => 13,
         Refusal::StillOpen => 14,
         Refusal::LastEpoch => 15,
-        Refusal::NoLine => 16,
+        Refusal::NoWord => 16,
         Refusal::QueueEmpty => 17,
     }
 }

@@ -8,7 +8,7 @@ use borrow.Author.Tests.{ltb-true, ltb-false}
 use native.Mathlib.Nat.{eq-or-lt-of-le}
 use native.Mathlib.Numerals.{add-one}
 use native.Mathlib.Omega.{arith}
-use Rattle.search.specs.Bools.{cases, and-right}
+use Rattle.search.specs.Bools.{cases, and-left, and-right}
 
 unfoldable pub largest : (ℕ → Bool) → (ℕ → ℕ) → ℕ → ℕ
 largest p f zero = 0
@@ -18,7 +18,7 @@ largest p f (suc k) = cond (p k && ltb (largest p f k) (f k)) (f k) (largest p f
 unfoldable pub raised : (ℕ → Bool) → (ℕ → ℕ) → ℕ → ℕ → ℕ
 raised p f i b = cond (p i && ltb b (f i)) (f i) b
 
--- what was there is not lowered; a number that passes counts; the bound of all holds
+-- what was there is not lowered; a number that passes counts; the bound of those that pass holds
 module _ (p : ℕ → Bool) (f : ℕ → ℕ) (i b : ℕ) where
   pub raised-keeps : b ≤ raised p f i b
   unfolding raised
@@ -36,11 +36,11 @@ module _ (p : ℕ → Bool) (f : ℕ → ℕ) (i b : ℕ) where
       (λ (u : ltb b (f i) ≡ false). rw (t, u) (ltb-false b (f i) u))
       (cases (ltb b (f i)))
 
-  pub raised-top : (top : ℕ) → b ≤ top → f i ≤ top → raised p f i b ≤ top
+  pub raised-top : (top : ℕ) → b ≤ top → (p i ≡ true → f i ≤ top) → raised p f i b ≤ top
   unfolding raised
   raised-top top m h =
       ⊎-elim
-      (λ (t : p i && ltb b (f i) ≡ true). rw t h)
+      (λ (t : p i && ltb b (f i) ≡ true). rw t (h (and-left (p i) _ t)))
       (λ (u : p i && ltb b (f i) ≡ false). rw u m)
       (cases (p i && ltb b (f i)))
 
@@ -54,7 +54,7 @@ largest-bounds p f (suc k) i h t =
     (λ (l : i < k). omega (arith, largest-bounds p f k i l t, raised-keeps p f k (largest p f k)))
     (eq-or-lt-of-le (omega arith))
 
-pub largest-top : (p : ℕ → Bool) (f : ℕ → ℕ) (top k : ℕ) → ((i : ℕ) → i < k → f i ≤ top) → largest p f k ≤ top
+pub largest-top : (p : ℕ → Bool) (f : ℕ → ℕ) (top k : ℕ) → ((i : ℕ) → i < k → p i ≡ true → f i ≤ top) → largest p f k ≤ top
 unfolding largest raised
 largest-top p f top zero h = omega arith
 largest-top p f top (suc k) h = raised-top p f k (largest p f k) top (largest-top p f top k (λ i l. h i (omega arith))) (h k (omega arith))

@@ -1,7 +1,7 @@
 -- The ways out of a step: what is due, what waits, the lines, and the step by its phase.
 use Prim.Native.Nat.{ℕ, _+_, _-_, _≤_, _<_}
 use mathlib.Core.Path.{_≡_, refl, sym, _∙_}
-use mathlib.Core.Bool.{Bool, true, false, _&&_}
+use mathlib.Core.Bool.{Bool, true, false, not, _&&_}
 use mathlib.Core.Logic.{⊎-elim}
 use mathlib.Core.List.{List}
 use lib.Dec.{eqb}
@@ -10,9 +10,9 @@ use Rattle.search.specs.Bools.{cases}
 use Rattle.search.specs.declared.Found.{Found}
 use Rattle.search.specs.declared.Found.the-variants.{At, Nothing}
 use Rattle.image.specs.declared.header.Header.{Header}
-use Rattle.image.specs.Layout.{mostSlots, payloadKind, header, freeHeader}
+use Rattle.image.specs.Layout.{mostSlots, hasZero, isPayload, header, freeHeader}
 use Rattle.image.specs.Line.{headerLine, clockLine, storeLine}
-use Rattle.image.specs.Requires.{kindAt, heldHeader, heldContents, Slots, slot}
+use Rattle.image.specs.Requires.{heldHeader, heldContents, Slots, slot}
 use Rattle.transient.specs.declared.sizes.Sizes.{Sizes}
 use Rattle.transient.specs.Layout.{retiredIn, isWaiting, setRetired, emptied}
 use Rattle.transient.specs.Store.{store, table}
@@ -21,7 +21,7 @@ use Rattle.step.specs.declared.Place.{Place}
 use Rattle.step.specs.declared.Advance.the-variants.{WentOn, Ticked}
 use Rattle.step.specs.Step.{idle, reclaimNext, contentsNext, headerNext, clockNext, Stepped, stepped, place, passing, due, reclaimed, contentsFlushed, headerFlushed, ticking, flushFrom, reclaimFrom, step}
 use Rattle.step.specs.Stages.{dueFrom, waitingFrom}
-use Rattle.step.specs.Requires.{retiredDue, payloadDue, Freed, reclaimAt, Waiting, Going, slots-first, slots-second, waiting-note, going-advancing, going-first, requires-laws}
+use Rattle.step.specs.Requires.{retiredDue, payloadDue, antiDue, Freed, reclaimAt, Waiting, Going, slots-first, slots-second, waiting-note, going-advancing, going-first, requires-laws}
 use Rattle.step.specs.From.{From, from-start, froms, pairs, due-is, due-between, waiting-is, waiting-between}
 
 -- ---- what is due
@@ -45,25 +45,34 @@ module _ (z : Sizes) (wk tr : List ℕ) (c s : ℕ) where
   module _ {r : ℕ} {d : Bool} (re : r ≡ retiredIn z tr s) (de : d ≡ retiredDue r c) where
     pub payload-young : d ≡ false → false ≡ payloadDue z (table wk tr) c s
     unfolding payloadDue
-    payload-young e = rw (← re, ← de, e) (and-none (payloadKind (header wk s .kind)))
+    payload-young e = rw (← re, ← de, e) (and-none (isPayload (header wk s)))
 
-    pub payload-kind : {k : ℕ} {p : Bool} → d ≡ true → k ≡ kindAt wk s → p ≡ payloadKind k → p ≡ payloadDue z (table wk tr) c s
-    unfolding payloadDue header
-    payload-kind {k} e ke pe = rw (← re, ← de, e, ← ke, ← and-sure (payloadKind k)) pe
+    pub payload-old : {h : Header} {p : Bool} → d ≡ true → h ≡ header wk s → p ≡ isPayload h → p ≡ payloadDue z (table wk tr) c s
+    unfolding payloadDue
+    payload-old {h} e at pe = rw (← re, ← de, e, ← at, ← and-sure (isPayload h)) pe
 
   module _ {q : Bool} (qe : q ≡ payloadDue z (table wk tr) c s) where
     pub due-payload : q ≡ true → true ≡ due z (table wk tr) c s
     unfolding due payloadDue retiredDue
     due-payload e = rw (← qe, e)
 
-    module _ {h : Header} (e : q ≡ false) (at : h ≡ header wk s) where
-      pub due-delete : {a b : ℕ} → h .kind ≡ 3 → a ≡ h .epoch → b ≡ c → eqb (a + 3) b ≡ due z (table wk tr) c s
-      unfolding due payloadDue retiredDue
-      due-delete k x y = rw (← qe, e, ← at, k, x, y)
+    pub due-anti : {a : Bool} → q ≡ false → a ≡ antiDue wk c s → a ≡ due z (table wk tr) c s
+    unfolding due payloadDue retiredDue antiDue
+    due-anti e a = rw (← qe, e) a
 
-      pub due-other : (h .kind ≡ 3 → ⊥) → false ≡ due z (table wk tr) c s
-      unfolding due payloadDue retiredDue
-      due-other k = rw (← qe, e, ← at, ne-eqb (h .kind) 3 k)
+  module _ {h : Header} (at : h ≡ header wk s) where
+    pub anti-other : (h .kind ≡ 3 → ⊥) → false ≡ antiDue wk c s
+    unfolding antiDue
+    anti-other k = rw (← at, ne-eqb (h .kind) 3 k) (and-none (not (hasZero h)))
+
+    module _ {o : Bool} (k : h .kind ≡ 3) (oe : o ≡ hasZero h) where
+      pub anti-zero : o ≡ true → false ≡ antiDue wk c s
+      unfolding antiDue
+      anti-zero e = rw (← at, ← oe, e)
+
+      pub anti-old : {a b : ℕ} → o ≡ false → a ≡ h .epoch → b ≡ c → eqb (a + 3) b ≡ antiDue wk c s
+      unfolding antiDue
+      anti-old e x y = rw (← at, ← oe, e, k, x, y)
 
 pub due-start : {wk tr : List ℕ} {z : Sizes} {p : ℕ} (c : ℕ) → ShapedSlot wk tr z p → From (due z (table wk tr) c) (z .n) p p
 due-start {wk} {tr} {z} {p} c y = from-start (due z (table wk tr) c) (z .n) p (y .slot .within)
@@ -181,7 +190,7 @@ module _ (z : Sizes) (wk l tr : List ℕ) where
         rw (y, ne-eqb (p .phase) contentsNext b, ne-eqb (p .phase) headerNext d, ne-eqb (p .phase) clockNext f) (rw h at e))
         (cases (eqb (p .phase) reclaimNext))
 
-pub ruleset dues = (froms, slot-note, slot-head, retired-none, retired-due, payload-young, payload-kind, due-payload, due-delete, due-other, due-start, due-slot, due-is)
+pub ruleset dues = (froms, slot-note, slot-head, retired-none, retired-due, payload-young, payload-old, due-payload, due-anti, anti-other, anti-zero, anti-old, due-start, due-slot, due-is)
 
 pub ruleset waits = (pairs, waiting-start, waiting-few, waiting-note, waiting-is)
 

@@ -85,4 +85,4 @@ module _ (z : Sizes) (st : Store) (c : ℕ) (long : 3 ≤ length (st .working)) 
       }
 
   pub step-kept : (p : Place) → Kept z st c (step z st c p)
-  step-kept = every-way (Kept z st c) z st c reclaim-kept contents-kept header-kept tick-kept
+  step-kept = every-way (Kept z st c) z st c (λ s h. reclaim-kept s) contents-kept header-kept tick-kept

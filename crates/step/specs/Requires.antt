@@ -8,7 +8,7 @@ use lib.Dec.{eqb}
 use mir.Val.{Fits}
 use mir.Syntax.{w32}
 use native.Mathlib.Omega.{arith}
-use Rattle.image.specs.Layout.{mostSlots, mostNumber, payloadKind, header, freeHeader}
+use Rattle.image.specs.Layout.{mostSlots, mostNumber, hasZero, isPayload, header, freeHeader}
 use Rattle.image.specs.Line.{headerLine, storeLine}
 use Rattle.image.specs.Requires.{Sized, Slots, HeaderFits, slot, slot-header}
 use Rattle.transient.specs.declared.sizes.Sizes.{Sizes}
@@ -86,7 +86,11 @@ retiredDue r c = not (eqb r 0) && eqb (r + 2) c
 
 -- a payload retired two epochs ago
 unfoldable pub payloadDue : Sizes → Table → ℕ → ℕ → Bool
-payloadDue z tb c s = payloadKind (header (tb .working) s .kind) && retiredDue (retiredIn z (tb .transient) s) c
+payloadDue z tb c s = isPayload (header (tb .working) s) && retiredDue (retiredIn z (tb .transient) s) c
+
+-- a DELETE of three epochs ago
+unfoldable pub antiDue : List ℕ → ℕ → ℕ → Bool
+antiDue wk c s = not (hasZero (header wk s)) && (eqb (header wk s .kind) 3 && eqb (header wk s .epoch + 3) c)
 
 -- a slot is free in both images
 pub record Freed (wk l : List ℕ) (s : ℕ) (wk′ l′ : List ℕ) : Type 0 where

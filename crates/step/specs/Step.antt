@@ -4,7 +4,7 @@ use mathlib.Core.Bool.{Bool, not, cond, _&&_, _||_}
 use mathlib.Core.List.{List}
 use lib.Dec.{leb, ltb, eqb}
 use Rattle.search.specs.First.{firstOf, whereFound}
-use Rattle.image.specs.Layout.{payloadKind, header, contents, freeHeader}
+use Rattle.image.specs.Layout.{hasZero, isPayload, header, contents, freeHeader}
 use Rattle.image.specs.Line.{headerLine, contentsLine, clockLine, storeLine}
 use Rattle.transient.specs.declared.sizes.Sizes.{Sizes}
 use Rattle.transient.specs.Layout.{retiredIn, isWaiting, setRetired, emptied}
@@ -49,8 +49,8 @@ stepped r wk l tr p = record { reply = r; store = store wk l tr; place = p }
 -- ---- step 1: "In slot order, each payload retired in c − 2 and each DELETE labelled c − 3 becomes free in both images."
 unfoldable pub due : Sizes → Table → ℕ → ℕ → Bool
 due z tb c s =
-    (payloadKind (header (tb .working) s .kind) && (not (eqb (retiredIn z (tb .transient) s) 0) && eqb (retiredIn z (tb .transient) s + 2) c))
-    || (eqb (header (tb .working) s .kind) 3 && eqb (header (tb .working) s .epoch + 3) c)
+    (isPayload (header (tb .working) s) && (not (eqb (retiredIn z (tb .transient) s) 0) && eqb (retiredIn z (tb .transient) s + 2) c))
+    || (not (hasZero (header (tb .working) s)) && (eqb (header (tb .working) s .kind) 3 && eqb (header (tb .working) s .epoch + 3) c))
 
 unfoldable pub reclaimed : Sizes → Store → ℕ → Stepped
 reclaimed z st s =

@@ -1,17 +1,18 @@
 -- The ways of a step: it reclaims a slot, stores one of a slot's two lines, or ticks. What holds of each holds of every step.
-use Prim.Native.Nat.{ℕ}
-use mathlib.Core.Bool.{Bool, true, false, cond}
-use lib.Dec.{eqb}
+use Prim.Native.Nat.{ℕ, _<_}
+use mathlib.Core.Path.{_≡_, refl}
+use mathlib.Core.Bool.{Bool, true, false, cond, _&&_}
+use lib.Dec.{leb, eqb}
 use Rattle.search.specs.declared.Found.{Found}
 use Rattle.search.specs.declared.Found.the-variants.{At, Nothing}
-use Rattle.search.specs.First.{whereFound}
+use Rattle.search.specs.First.{whereFound, found-first}
 use Rattle.transient.specs.declared.sizes.Sizes.{Sizes}
 use Rattle.transient.specs.Store.{Store, tableOf}
 use Rattle.step.specs.declared.Place.{Place}
-use Rattle.step.specs.Step.{reclaimNext, contentsNext, headerNext, clockNext, Stepped, reclaimed, contentsFlushed, headerFlushed, ticking, flushFrom, reclaimFrom, step}
+use Rattle.step.specs.Step.{reclaimNext, contentsNext, headerNext, clockNext, Stepped, due, reclaimed, contentsFlushed, headerFlushed, ticking, flushFrom, reclaimFrom, step}
 use Rattle.step.specs.Stages.{dueFrom, waitingFrom}
 
-module _ (P : Stepped → Type 0) (z : Sizes) (st : Store) (c : ℕ) (reclaims : (s : ℕ) → P (reclaimed z st s)) (line : (s : ℕ) → P (contentsFlushed z st s))
+module _ (P : Stepped → Type 0) (z : Sizes) (st : Store) (c : ℕ) (reclaims : (s : ℕ) → s < z .n → P (reclaimed z st s)) (line : (s : ℕ) → P (contentsFlushed z st s))
     (head : (s : ℕ) → P (headerFlushed z st s)) (ticks : P (ticking z st c)) where
   flush-way : (p : ℕ) → P (flushFrom z st c p)
   unfolding flushFrom waitingFrom
@@ -23,11 +24,11 @@ module _ (P : Stepped → Type 0) (z : Sizes) (st : Store) (c : ℕ) (reclaims :
 
   reclaim-way : (p : ℕ) → P (reclaimFrom z st c p)
   unfolding reclaimFrom dueFrom
-  reclaim-way p = go (dueFrom z (tableOf st) c p)
+  reclaim-way p = go (dueFrom z (tableOf st) c p) refl
     where
-      go : (f : Found) → P (whereFound f (reclaimed z st) (flushFrom z st c 0))
-      go (At s) = reclaims s
-      go Nothing = flush-way 0
+      go : (f : Found) → dueFrom z (tableOf st) c p ≡ f → P (whereFound f (reclaimed z st) (flushFrom z st c 0))
+      go (At s) e = reclaims s (found-first (λ m. leb p m && due z (tableOf st) c m) (z .n) e .below)
+      go Nothing e = flush-way 0
 
   either : (b : Bool) (x y : Stepped) → P x → P y → P (cond b x y)
   either true x y p q = p

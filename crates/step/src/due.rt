@@ -3,11 +3,12 @@ use image::header::Header;
 use search::Found;
 use transient::sizes::Sizes;
 ghost use mathlib.Core.Path.{_≡_};
+ghost use Rattle.image.specs.Requires.{HeaderFits};
 ghost use Rattle.transient.specs.Store.{table};
 ghost use Rattle.transient.specs.Requires.{ShapedSlot};
 ghost use Rattle.step.specs.Step.{due};
 ghost use Rattle.step.specs.Stages.{dueFrom, waitingFrom};
-ghost use Rattle.step.specs.Requires.{Waiting, retiredDue, payloadDue};
+ghost use Rattle.step.specs.Requires.{Waiting, retiredDue, payloadDue, antiDue};
 
 // Was it retired two epochs ago?
 fn retired_due(r: u32, c: u32) -> bool
@@ -25,10 +26,25 @@ fn payload_due(working: &[u32], transient: &[u32], z: Sizes, c: u32, s: usize) -
     ensures { λ r. ⌜ r ≡ payloadDue z (table (now (working .entry)) (now (transient .entry))) c s ⌝ }
 {
     if retired_due(transient::notes::retired_in(transient, z, s), c) {
-        image::header::payload(image::header::kind_at(working, z.n, s))
+        image::header::payload(image::header::header_at(working, z.n, s))
     } else {
         false
     }
+}
+
+// Is it a DELETE of three epochs ago? Most slots hold none, so the kind is asked first.
+fn anti_due(working: &[u32], z: Sizes, c: u32, s: usize) -> bool
+    requires { ⌜ HeaderFits (now working) (z .n) s ⌝ }
+    ensures { λ r. ⌜ r ≡ antiDue (now (working .entry)) c s ⌝ }
+{
+    let h = image::header::header_at(working, z.n, s);
+    if h.kind == Header::DELETE {
+        if image::header::has_zero(h) {
+            return false;
+        }
+        return image::shape::wide(h.epoch) + 3 == image::shape::wide(c);
+    }
+    false
 }
 
 // Does nothing need the slot any more, from clock c on?
@@ -39,11 +55,7 @@ fn due(working: &[u32], transient: &[u32], z: Sizes, c: u32, s: usize) -> bool
     if payload_due(working, transient, z, c, s) {
         return true;
     }
-    let h = image::header::header_at(working, z.n, s);
-    if h.kind == Header::DELETE {
-        return image::shape::wide(h.epoch) + 3 == image::shape::wide(c);
-    }
-    false
+    anti_due(working, z, c, s)
 }
 
 // The first slot to reclaim, from p on.

@@ -1,7 +1,7 @@
 -- The ways out of this crate's functions: a law for each, and for each call.
 use Prim.Native.Nat.{ℕ, _+_, _-_, _≤_, _<_}
 use mathlib.Core.Path.{_≡_, refl, sym, ap, _∙_}
-use mathlib.Core.Bool.{Bool, true, false, _&&_, and-false}
+use mathlib.Core.Bool.{Bool, true, false, _&&_, and-true, and-false}
 use mathlib.Core.List.{List}
 use lib.ListN.{getD}
 use lib.Dec.{leb, ltb, eqb}
@@ -10,7 +10,7 @@ use Rattle.search.specs.Bools.{tests, and-left, and-right}
 use Rattle.search.specs.Some.{anyOf}
 use Rattle.search.specs.Count.{count, Counted, counted-start, counted-hit, counted-miss, counted-end}
 use Rattle.image.specs.declared.header.Header.{Header}
-use Rattle.image.specs.Layout.{filledKind, payloadKind, header, clockOf}
+use Rattle.image.specs.Layout.{isFilled, isPayload, header, clockOf}
 use Rattle.image.specs.Requires.{HeaderFits}
 use Rattle.chains.specs.Chains.{spot, Under}
 use Rattle.chains.specs.Requires.{Spots, LinkPlace}
@@ -22,7 +22,7 @@ use Rattle.survival.specs.Laws.{flag-is, uid-at}
 use Rattle.survival.specs.Flagging.{Flagging, flagging-start, flagging-next, flagging-end}
 
 -- ---- kept, beats, survives
-module _ (c : ℕ) (h : Header) {f : Bool} (fl : f ≡ filledKind (h .kind)) where
+module _ (c : ℕ) (h : Header) {f : Bool} (fl : f ≡ isFilled h) where
   pub kept-yes : {e d : ℕ} → f ≡ true → e ≡ h .epoch → d ≡ c → leb (e + 2) d ≡ kept c h
   unfolding kept
   kept-yes t p q = rw (← fl, t, p, q)
@@ -44,16 +44,16 @@ module _ (c : ℕ) (h : Header) (l : List ℕ) (t : ℕ) {g : Header} {k : Bool}
   unfolding beats
   beats-no e = rw (← at, ← kp, e)
 
-module _ (c : ℕ) (l : List ℕ) (t : ℕ) {g : Header} {k : Bool} (at : g ≡ header l t) (kp : k ≡ kept c g) where
-  pub anti-yes : k ≡ true → eqb (g .kind) 3 ≡ keptAnti c (header l t)
+module _ (c : ℕ) (l : List ℕ) (t : ℕ) {g : Header} (at : g ≡ header l t) where
+  pub anti-yes : {k : Bool} → g .kind ≡ 3 → k ≡ kept c g → k ≡ keptAnti c (header l t)
   unfolding keptAnti
-  anti-yes e = rw (← at, ← kp, e)
+  anti-yes d e = rw (← at, eq-eqb (g .kind) 3 d) (e ∙ sym (and-true (kept c g)))
 
-  pub anti-no : k ≡ false → false ≡ keptAnti c (header l t)
+  pub anti-no : (g .kind ≡ 3 → ⊥) → false ≡ keptAnti c (header l t)
   unfolding keptAnti
-  anti-no e = rw (← at, ← kp, e)
+  anti-no d = rw (← at, ne-eqb (g .kind) 3 d) (sym (and-false (kept c g)))
 
-module _ (c : ℕ) (l : List ℕ) (n s : ℕ) {h : Header} {p : Bool} (at : h ≡ header l s) (pl : p ≡ payloadKind (h .kind)) where
+module _ (c : ℕ) (l : List ℕ) (n s : ℕ) {h : Header} {p : Bool} (at : h ≡ header l s) (pl : p ≡ isPayload h) where
   pub survives-kind : p ≡ false → false ≡ survives c (header l) n s
   unfolding survives
   survives-kind e = rw (← at, ← pl, e)

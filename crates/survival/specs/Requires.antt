@@ -8,7 +8,7 @@ use lib.Dec.{eqb}
 use native.Mathlib.Omega.{arith}
 use Rattle.search.specs.Some.{anyOf}
 use Rattle.image.specs.declared.header.Header.{Header}
-use Rattle.image.specs.Layout.{mostSlots, headerWords, payloadKind, header}
+use Rattle.image.specs.Layout.{mostSlots, headerWords, isPayload, header}
 use Rattle.image.specs.Requires.{Sized, Slot, HeaderFits, slot}
 use Rattle.chains.specs.Chains.{Linked}
 use Rattle.chains.specs.Requires.{Room, room-small, room-large}
@@ -32,7 +32,7 @@ unfoldable pub wins : ℕ → (ℕ → Header) → ℕ → ℕ → Bool
 wins c hs n s = kept c (hs s) && not (anyOf (λ t. beats c (hs s) (hs t)) n)
 
 unfoldable pub survives : ℕ → (ℕ → Header) → ℕ → ℕ → Bool
-survives c hs n s = payloadKind (hs s .kind) && wins c hs n s
+survives c hs n s = isPayload (hs s) && wins c hs n s
 
 unfoldable pub keptAnti : ℕ → Header → Bool
 keptAnti c h = kept c h && eqb (h .kind) 3

@@ -6,11 +6,11 @@ use lib.Dec.{leb, ltb, eqb}
 use Rattle.search.specs.Some.{anyOf}
 use Rattle.search.specs.Count.{count}
 use Rattle.image.specs.declared.header.Header.{Header}
-use Rattle.image.specs.Layout.{filledKind, payloadKind, header, clockOf}
+use Rattle.image.specs.Layout.{isFilled, isPayload, header, clockOf}
 
 -- "A slot is kept when it is filled and label + 2 ≤ clock."
 unfoldable pub kept : ℕ → Header → Bool
-kept c h = filledKind (h .kind) && leb (h .epoch + 2) c
+kept c h = isFilled h && leb (h .epoch + 2) c
 
 -- a kept header g of the same uid and a larger epoch
 unfoldable pub beats : ℕ → Header → Header → Bool
@@ -19,7 +19,7 @@ beats c h g = kept c g && (eqb (g .uid) (h .uid) && ltb (h .epoch) (g .epoch))
 -- "Of kept slots with one uid the largest label wins; a winner of kind 1 or 2 survives.": slot s of an image of n slots
 unfoldable pub survivor : List ℕ → ℕ → ℕ → Bool
 survivor l n s =
-    payloadKind (header l s .kind) && (kept (clockOf l) (header l s) && not (anyOf (λ t. beats (clockOf l) (header l s) (header l t)) n))
+    isPayload (header l s) && (kept (clockOf l) (header l s) && not (anyOf (λ t. beats (clockOf l) (header l s) (header l t)) n))
 
 -- a survivor of that board
 unfoldable pub survivesOn : List ℕ → ℕ → ℕ → ℕ → Bool

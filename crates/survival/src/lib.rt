@@ -9,7 +9,7 @@ ghost use Rattle.survival.specs.Requires.{beaten, keptAnti, Headers, Mar
 pub fn kept(h: Header, c: u32) -> bool
     ensures { λ r. ⌜ r ≡ kept c h ⌝ }
 {
-    if image::header::filled(h.kind) {
+    if image::header::filled(h) {
         image::shape::wide(h.epoch) + 2 <= image::shape::wide(c)
     } else {
         false
@@ -62,7 +62,7 @@ fn survives(img: &[u32], heads: &[u32], below: &[u32], n: usize, c: u32, s: usiz
     ensures { λ r. ⌜ r ≡ survives c (header (now (img .entry))) n s ⌝ }
 {
     let h = image::header::header_at(img, n, s);
-    if image::header::payload(h.kind) {
+    if image::header::payload(h) {
         if kept(h, c) {
             if beaten(img, heads, below, n, c, h) {
                 false
@@ -131,13 +131,14 @@ pub fn survivor_count(img: &[u32], flags: &[bool; 1024], n: usize) -> usize
     k
 }
 
+// The kind is looked at first: few slots hold a DELETE.
 pub fn kept_anti_at(img: &[u32], n: usize, c: u32, s: usize) -> bool
     requires { ⌜ HeaderFits (now img) n s ⌝ }
     ensures { λ r. ⌜ r ≡ keptAnti c (header (now (img .entry)) s) ⌝ }
 {
     let h = image::header::header_at(img, n, s);
-    if kept(h, c) {
-        h.kind == Header::DELETE
+    if h.kind == Header::DELETE {
+        kept(h, c)
     } else {
         false
     }

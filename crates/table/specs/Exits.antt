@@ -19,7 +19,7 @@ use Rattle.search.specs.Ring.{firstRound, ring-ahead, ring-round, round-found, 
 use Rattle.search.specs.declared.Found.{Found}
 use Rattle.search.specs.declared.Found.the-variants.{At, Nothing}
 use Rattle.image.specs.declared.header.Header.{Header}
-use Rattle.image.specs.Layout.{contentsAt, filledKind, payloadKind, header}
+use Rattle.image.specs.Layout.{contentsAt, isFilled, isPayload, header}
 use Rattle.image.specs.Line.{headerLine, stored, storeLine}
 use Rattle.image.specs.declared.name.Name.{Name}
 use Rattle.image.specs.Name.{jobName, nameAt, sameName}
@@ -52,9 +52,9 @@ job-named l n w s key e q = rw (← e) q
 module _ (z : Sizes) (wk : List ℕ) (name : Name) (e s : ℕ) {k : Bool} (q : k ≡ sameName (nameAt wk (z .n) (z .w) s) name) where
   pub newer-other : k ≡ false → false ≡ newerAt z wk name e s
   unfolding newerAt
-  newer-other d = rw (← q, d) (and-no (filledKind (header wk s .kind)))
+  newer-other d = rw (← q, d) (and-no (isFilled (header wk s)))
 
-  module _ {h : Header} {f : Bool} (d : k ≡ true) (at : h ≡ header wk s) (fl : f ≡ filledKind (h .kind)) where
+  module _ {h : Header} {f : Bool} (d : k ≡ true) (at : h ≡ header wk s) (fl : f ≡ isFilled h) where
     pub newer-free : f ≡ false → false ≡ newerAt z wk name e s
     unfolding newerAt
     newer-free t = rw (← at, ← fl, t)
@@ -68,9 +68,9 @@ module _ (z : Sizes) (tb : Table) (name : Name) (s : ℕ) {k : Bool} (q : k ≡ 
   unfolding liveAt
   live-other d =
       rw (← q, d, ← and-no (eqb (retiredIn z (tb .transient) s) 0))
-      (and-no (payloadKind (header (tb .working) s .kind)))
+      (and-no (isPayload (header (tb .working) s)))
 
-  module _ {h : Header} {p : Bool} (d : k ≡ true) (at : h ≡ header (tb .working) s) (pl : p ≡ payloadKind (h .kind)) where
+  module _ {h : Header} {p : Bool} (d : k ≡ true) (at : h ≡ header (tb .working) s) (pl : p ≡ isPayload h) where
     pub live-not : p ≡ false → false ≡ liveAt z tb name s
     unfolding liveAt
     live-not e = rw (← at, ← pl, e)
@@ -184,7 +184,7 @@ module _ (z : Sizes) (tb : Table) (name : Name) (e : ℕ) {s live : ℕ} (y : As
   lookup-absent h l = rw (none-newer h, first-of (liveAt z tb name) (z .n), none-live h l, le-ltb (z .n) (z .n) (omega arith))
 
 -- ---- free slots
-module _ (wk : List ℕ) (s : ℕ) {h : Header} {f : Bool} (at : h ≡ header wk s) (fl : f ≡ filledKind (h .kind)) where
+module _ (wk : List ℕ) (s : ℕ) {h : Header} {f : Bool} (at : h ≡ header wk s) (fl : f ≡ isFilled h) where
   pub free-no : f ≡ true → false ≡ freeAt wk s
   unfolding freeAt
   free-no t = rw (← at, ← fl, t)

@@ -9,7 +9,7 @@ use Rattle.search.specs.Count.{count}
 use Rattle.search.specs.Ring.{firstRound}
 use Rattle.search.specs.declared.Found.{Found}
 use Rattle.search.specs.declared.Found.the-variants.{Nothing}
-use Rattle.image.specs.Layout.{filledKind, payloadKind, header}
+use Rattle.image.specs.Layout.{isFilled, isPayload, header}
 use Rattle.image.specs.declared.name.Name.{Name}
 use Rattle.image.specs.Name.{nameAt, sameName}
 use Rattle.transient.specs.declared.sizes.Sizes.{Sizes}
@@ -20,12 +20,12 @@ use Rattle.table.specs.declared.find.Lookup.the-variants.{Later, Live, A
 
 -- refusal 9: "a filled slot with this key is labelled above e"
 unfoldable pub newerAt : Sizes → List ℕ → Name → ℕ → ℕ → Bool
-newerAt z wk name e s = filledKind (header wk s .kind) && (sameName (nameAt wk (z .n) (z .w) s) name && ltb e (header wk s .epoch))
+newerAt z wk name e s = isFilled (header wk s) && (sameName (nameAt wk (z .n) (z .w) s) name && ltb e (header wk s .epoch))
 
 -- "A payload is live when its kind is 1 or 2 and it is not retired."
 unfoldable pub liveAt : Sizes → Table → Name → ℕ → Bool
 liveAt z tb name s =
-    payloadKind (header (tb .working) s .kind) && (eqb (retiredIn z (tb .transient) s) 0 && sameName (nameAt (tb .working) (z .n) (z .w) s) name)
+    isPayload (header (tb .working) s) && (eqb (retiredIn z (tb .transient) s) 0 && sameName (nameAt (tb .working) (z .n) (z .w) s) name)
 
 -- "of several live slots with one key, the lowest"
 unfoldable pub liveSlot : Sizes → Table → Name → Found
@@ -43,7 +43,7 @@ lookup z tb name e = cond (anyOf (newerAt z (tb .working) name e) (z .n)) Later 
 
 -- "Calls other than recover take a kind above 3 as free"
 unfoldable pub freeAt : List ℕ → ℕ → Bool
-freeAt wk s = not (filledKind (header wk s .kind))
+freeAt wk s = not (isFilled (header wk s))
 
 -- "The free slot taken is the first met going up from the slot after the last one taken, round past the end"; k must be free:
 -- "New and set need two free slots when they take one, delete needs one"

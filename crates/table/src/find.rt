@@ -34,7 +34,7 @@ fn newer_at(working: &[u32], z: Sizes, key: u32, e: u32, s: usize) -> bool
 {
     if of_job(working, z, key, s) {
         let h = image::header::header_at(working, z.n, s);
-        if image::header::filled(h.kind) {
+        if image::header::filled(h) {
             e < h.epoch
         } else {
             false
@@ -50,7 +50,7 @@ fn live_at(working: &[u32], transient: &[u32], z: Sizes, key: u32, s: usize) -> 
 {
     if of_job(working, z, key, s) {
         let h = image::header::header_at(working, z.n, s);
-        if image::header::payload(h.kind) {
+        if image::header::payload(h) {
             transient::notes::retired_in(transient, z, s) == 0
         } else {
             false
@@ -120,7 +120,7 @@ fn free_at(working: &[u32], n: usize, s: usize) -> bool
     ensures { λ r. ⌜ r ≡ freeAt (now (working .entry)) s ⌝ }
 {
     let h = image::header::header_at(working, n, s);
-    if image::header::filled(h.kind) {
+    if image::header::filled(h) {
         false
     } else {
         true

@@ -1,35 +1,34 @@
--- The ways of a line written back: a refusal, which changes nothing, or one of a slot's two lines. Working and the notes stay.
-use Prim.Native.Nat.{ℕ}
+-- The ways of a word written back: a refusal, which changes nothing, or one word past the first three. Working and the notes stay.
+use Prim.Native.Nat.{ℕ, _≤_}
 use mathlib.Core.Path.{_≡_, refl}
-use mathlib.Core.Bool.{Bool, true, false, cond, _||_}
-use lib.Dec.{leb, ltb, eqb}
+use mathlib.Core.Bool.{Bool, true, false, _||_}
+use lib.ListN.{length, getD, set}
+use lib.Dec.{leb, ltb}
+use borrow.Author.Tests.{ltb-false}
+use Rattle.search.specs.Bools.{or-left}
 use Rattle.reply.specs.declared.Check.{Check}
 use Rattle.reply.specs.declared.Check.the-variants.{Accepted, Refused}
 use Rattle.reply.specs.declared.Refusal.{Refusal}
-use Rattle.reply.specs.declared.Refusal.the-variants.{NoLine}
+use Rattle.reply.specs.declared.Refusal.the-variants.{NoWord}
 use Rattle.reply.specs.Refusals.{refuse}
-use Rattle.image.specs.Line.{Line, storeLine}
-use Rattle.image.specs.Requires.{heldHeader, heldContents}
-use Rattle.transient.specs.Store.{Store, tableOf, sizesOf, Outcome, outcome, afterCheck}
+use Rattle.transient.specs.Store.{Store, tableOf, Outcome, outcome, afterCheck}
 use Rattle.transient.specs.Entry.{entryCheck}
 use Rattle.write_back.specs.WriteBack.{writeBack}
-use Rattle.write_back.specs.Stages.{writeBackSized, write-back-is}
+use Rattle.write_back.specs.Stages.{writeWord, write-back-is}
 
-pub back-way : (P : Outcome Check → Type 0) (st : Store) (slot code : ℕ) → ((r : Refusal) → P (record { reply = Refused r; store = st }))
-    → P (outcome Accepted (st .working) (storeLine (st .persistent) (heldContents (st .working) (sizesOf (tableOf st) .n) (sizesOf (tableOf st) .w) slot)) (st .transient))
-    → P (outcome Accepted (st .working) (storeLine (st .persistent) (heldHeader (st .working) slot)) (st .transient)) → P (writeBack st slot code)
-unfolding writeBackSized
-back-way P st slot code declines contents head = rw (write-back-is st slot code) (go (entryCheck st) (leb (sizesOf (tableOf st) .n) slot || ltb 1 code) (eqb code 0))
+abbrev pub copied : Store → ℕ → Outcome Check
+copied st i = outcome Accepted (st .working) (set (st .persistent) i (getD (st .working) i 0)) (st .transient)
+
+pub back-way : (P : Outcome Check → Type 0) (st : Store) (i : ℕ) → ((r : Refusal) → P (record { reply = Refused r; store = st }))
+    → (3 ≤ i → P (copied st i)) → P (writeBack st i)
+unfolding writeWord
+back-way P st i declines copies = rw (write-back-is st i) (go (entryCheck st) (ltb i 3 || leb (length (st .working)) i) refl)
   where
-    at : Line → Outcome Check
-    at k = outcome Accepted (st .working) (storeLine (st .persistent) k) (st .transient)
+    go : (j : Check) (b : Bool) → ltb i 3 || leb (length (st .working)) i ≡ b
+        → P (afterCheck j Refused st (afterCheck (refuse b NoWord Accepted) Refused st (copied st i)))
+    go (Refused r) b e = declines r
+    go Accepted true e = declines NoWord
+    go Accepted false e = copies (ltb-false i 3 (or-left (ltb i 3) _ e))
 
-    go : (j : Check) (b d : Bool)
-        → P (afterCheck j Refused st (afterCheck (refuse b NoLine Accepted) Refused st (at (cond d (heldContents (st .working) (sizesOf (tableOf st) .n) (sizesOf (tableOf st) .w) slot) (heldHeader (st .working) slot)))))
-    go (Refused r) b d = declines r
-    go Accepted true d = declines NoLine
-    go Accepted false true = contents
-    go Accepted false false = head
-
-pub back-same : (st : Store) (slot code : ℕ) → tableOf (writeBack st slot code .store) ≡ tableOf st
-back-same st slot code = back-way (λ x. tableOf (x .store) ≡ tableOf st) st slot code (λ r. refl) refl refl
+pub back-same : (st : Store) (i : ℕ) → tableOf (writeBack st i .store) ≡ tableOf st
+back-same st i = back-way (λ x. tableOf (x .store) ≡ tableOf st) st i (λ r. refl) (λ h. refl)

@@ -1,60 +1,38 @@
-// A line written back: the memory copies one from working to persistent outside of any advance.
+// A word written back: the memory copies one from working to persistent outside of any advance.
 use reply::Check;
 use reply::Refusal;
-use transient::sizes::Sizes;
 ghost use mathlib.Core.Path.{_≡_};
+ghost use lib.ListN.{length};
 ghost use Rattle.transient.specs.Store.{store, outcome};
-ghost use Rattle.transient.specs.Requires.{EnteredWith};
 ghost use Rattle.write_back.specs.WriteBack.{writeBack};
-ghost use Rattle.write_back.specs.Stages.{writeBackSized};
+ghost use Rattle.write_back.specs.Stages.{writeWord};
 
-fn write_line(
-    working: &[u32],
-    persistent: &mut [u32],
-    transient: &[u32],
-    z: Sizes,
-    slot: usize,
-    line: u32,
-) -> Check
-    requires { ⌜ EnteredWith (now working) (now persistent) (now transient) z ⌝ }
-    ensures { λ r. ⌜ outcome r (now (working .entry)) (now (persistent .exit)) (now (transient .entry)) ≡ writeBackSized slot line z (store (now (working .entry)) (now (persistent .entry)) (now (transient .entry))) ⌝ }
+// The first three words are the sizes and the clock.
+fn write_word(working: &[u32], persistent: &mut [u32], transient: &[u32], position: usize) -> Check
+    requires { ⌜ length (now persistent) ≡ length (now working) ⌝ }
+    ensures { λ r. ⌜ outcome r (now (working .entry)) (now (persistent .exit)) (now (transient .entry)) ≡ writeWord (store (now (working .entry)) (now (persistent .entry)) (now (transient .entry))) position ⌝ }
 {
-    if z.n <= slot {
-        return Check::Refused(Refusal::NoLine);
+    if position < 3 {
+        return Check::Refused(Refusal::NoWord);
     }
-    if 1 < line {
-        return Check::Refused(Refusal::NoLine);
+    if working.len() <= position {
+        return Check::Refused(Refusal::NoWord);
     }
-    if line == 0 {
-        image::contents::copy_contents(working, persistent, z.n, z.w, slot);
-        return Check::Accepted;
-    }
-    step::lines::write_header(working, persistent, z, slot);
+    persistent[position] = working[position];
     Check::Accepted
 }
 
-// Copies a slot's contents (line 0) or its header (line 1).
+// Copies the word at a position of the image, from 0.
 pub fn write_back(
     working: &[u32],
     persistent: &mut [u32],
     transient: &[u32],
-    slot: u32,
-    line: u32,
+    position: usize,
 ) -> Check
-    ensures { λ r. ⌜ outcome r (now (working .entry)) (now (persistent .exit)) (now (transient .entry)) ≡ writeBack (store (now (working .entry)) (now (persistent .entry)) (now (transient .entry))) slot line ⌝ }
+    ensures { λ r. ⌜ outcome r (now (working .entry)) (now (persistent .exit)) (now (transient .entry)) ≡ writeBack (store (now (working .entry)) (now (persistent .entry)) (now (transient .entry))) position ⌝ }
 {
     match transient::entry::check(working, persistent, transient) {
         Check::Refused(r) => Check::Refused(r),
-        Check::Accepted => {
-            let z = transient::sizes::read_sizes(working, transient);
-            write_line(
-                working,
-                persistent,
-                transient,
-                z,
-                image::shape::wide(slot),
-                line,
-            )
-        }
+        Check::Accepted => write_word(working, persistent, transient, position),
     }
 }

@@ -10,7 +10,7 @@ stale-at-spec =
     (tie.spec
     (λ c κs. search (needs, steps))
     (λ c κs. search (needs, steps))
-    (λ c. search (needs, steps))
+    (λ c κs. search (needs, steps))
     (λ c. search (needs, steps))
     (λ c κs. search (needs, steps))
     (λ c. search (needs, steps))

@@ -1,21 +1,13 @@
--- `payload`: by the tests on the way.
+-- `payload`: each way out is a law.
 use borrow.Author.Needs.{needs}
-use Rattle.image.specs.Exits.{laws}
-use Rattle.image.specs.Layout.{payloadKind}
+use Rattle.image.specs.Exits.{headers}
 use Rattle.image.proofs.header.payload.Statement.{statement}
 use Rattle.image.proofs.header.payload.Tie as tie
-
-returns : tie.Need-returns
-unfolding payloadKind
-returns c = search (needs, laws)
-
-returns-2 : tie.Need-returns-2
-unfolding payloadKind
-returns-2 c = search (needs, laws)
 
 pub payload-spec : {M : Type 1} → statement M
 payload-spec =
     tie.close
     (tie.spec
-    returns
-    returns-2)
+    (λ c. search (needs, headers))
+    (λ c. search (needs, headers))
+    (λ c. search (needs, headers)))

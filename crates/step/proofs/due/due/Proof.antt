@@ -11,8 +11,4 @@ due-spec =
     (λ c κs. search (needs, dues))
     (λ c. search (needs, dues))
     (λ c κs. search (needs, dues))
-    (λ c κs. search (needs, dues))
-    (λ c. search (needs, dues))
-    (λ c κs. search (needs, dues))
-    (λ c. search (needs, dues))
     (λ c. search (needs, dues)))
