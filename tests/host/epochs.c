@@ -1,74 +1,182 @@
-/* How a job becomes lasting, through the header: by advance calls, by sync, and what a power cut leaves.
+/* How a job becomes lasting, through the header: by advance calls, by sync, and what a power cut leaves, also one
+   within a store.
    Usage: epochs */
 
 #include "board.h"
 #include "checks.h"
 
-enum { SLOTS = 8, WORDS = 3, THREADS = 2, VALUE_WORDS = WORDS - 1 };
+enum { SLOTS = 8, WORDS = 3, THREADS = 2, VALUE_WORDS = WORDS - 1, PREFIX = 3, KEY = 7 };
 enum { KIND, EPOCH, UID, BOARD, HEADER_WORDS };
+enum { CONTENTS = PREFIX + HEADER_WORDS * SLOTS };
 
-_Static_assert(BOARD_STILL_OPEN == 14 && BOARD_LAST_EPOCH == 15 && BOARD_NO_LINE == 16, "the header's refusals");
+_Static_assert(BOARD_STILL_OPEN == 14 && BOARD_LAST_EPOCH == 15 && BOARD_NO_WORD == 16, "the header's refusals");
 _Static_assert(BOARD_STORED == 0 && BOARD_TICKED == 1, "what an advance call did");
+
+/* The lengths are in words; `last` is an image beside the store, for what persistent was. */
+struct store {
+    size_t n, tn;
+    uint32_t *w, *p, *t, *last;
+};
+
+#define STORE(s) (s)->w, (s)->n, (s)->p, (s)->n, (s)->t, (s)->tn
+
+static const uint32_t value[VALUE_WORDS] = {31, 32};
+
+static struct store new_store(void)
+{
+    struct store s = {.n = board_image_words(SLOTS, WORDS), .tn = board_transient_words(SLOTS, THREADS)};
+    s.w = block(s.n);
+    s.p = block(s.n);
+    s.t = block(s.tn);
+    s.last = block(s.n);
+    same("format", board_format(STORE(&s), SLOTS, WORDS), 0);
+    return s;
+}
+
+static void free_store(struct store *s)
+{
+    free(s->w);
+    free(s->p);
+    free(s->t);
+    free(s->last);
+}
+
+static void keep(struct store *s) { memcpy(s->last, s->p, s->n * sizeof *s->p); }
+static void as_kept(const char *what, const struct store *s) { same(what, !!memcmp(s->p, s->last, 4 * s->n), 0); }
+
+/* The power is cut: what was in ordinary memory is gone. */
+static void power_cut(struct store *s)
+{
+    memset(s->w, 0x5A, s->n * sizeof *s->w);
+    memset(s->t, 0x5A, s->tn * sizeof *s->t);
+}
+
+static uint64_t survivors(const struct store *s) { return board_survivors((const uint8_t *)s->p, 4 * s->n); }
+
+/* One job, line by line. */
+static void made_lasting(struct store *s)
+{
+    same("a sync where nothing changed", board_sync(STORE(s)), 2);
+    same("the clock after it", s->p[2], 4);
+    same("begin", board_begin(STORE(s), 0), 0);
+    same("new", board_new(STORE(s), 0, KEY, value, VALUE_WORDS), 0);
+    same("a sync with an operation open", board_sync(STORE(s)), BOARD_REFUSED + BOARD_STILL_OPEN);
+    same("an advance", board_advance(STORE(s)), BOARD_TICKED);
+    same("the next with the operation open", board_advance(STORE(s)), BOARD_REFUSED + BOARD_STILL_OPEN);
+    same("end", board_end(STORE(s), 0), 0);
+
+    same("the job's contents", board_advance(STORE(s)), BOARD_STORED);
+    same("the key in persistent", s->p[CONTENTS], KEY);
+    same("its header is not there yet", s->p[PREFIX + KIND], 0);
+    same("the job's header", board_advance(STORE(s)), BOARD_STORED);
+    same("the kind in persistent", s->p[PREFIX + KIND], 1);
+    same("the board in persistent", s->p[PREFIX + BOARD], 1);
+    same("the survivors before the tick", survivors(s), 0);
+    same("the clock", board_advance(STORE(s)), BOARD_TICKED);
+    same("the survivors after it", survivors(s), 1);
+}
+
+/* The power is cut after its delete, which is of the clock's epoch and is lost; the job is not. */
+static void delete_lost(struct store *s)
+{
+    const size_t anti = PREFIX + HEADER_WORDS;
+    same("begin, to delete", board_begin(STORE(s), 1), 0);
+    same("delete", board_delete(STORE(s), 1, KEY), 0);
+    same("end of it", board_end(STORE(s), 1), 0);
+    for (size_t i = 0; i < HEADER_WORDS; i++)
+        same("a word of the DELETE's header written back", board_write_back(STORE(s), anti + i), 0);
+    same("the kind there", s->p[anti + KIND], 3);
+    same("the board there", s->p[anti + BOARD], 1);
+
+    power_cut(s);
+    same("recovery frees the DELETE", board_recover(STORE(s)), BOARD_WENT_ON);
+    same("recovery", board_recover(STORE(s)), BOARD_DONE);
+    uint64_t at = board_read(STORE(s), 0, KEY);
+    same("where the job stands", at, CONTENTS + 1);
+    if (at + VALUE_WORDS <= s->n)
+        same("its value", !!memcmp(s->w + at, value, sizeof value), 0);
+}
+
+static void deleted_and_the_end(struct store *s)
+{
+    same("begin again", board_begin(STORE(s), 0), 0);
+    same("delete again", board_delete(STORE(s), 0, KEY), 0);
+    same("end again", board_end(STORE(s), 0), 0);
+    same("the lines of a sync", board_sync(STORE(s)), 4);
+    same("the survivors after the sync", survivors(s), 0);
+
+    s->w[2] = s->p[2] = 4000000000;
+    same("an advance at the last epoch", board_advance(STORE(s)), BOARD_REFUSED + BOARD_LAST_EPOCH);
+    same("a sync at the last epoch", board_sync(STORE(s)), BOARD_REFUSED + BOARD_LAST_EPOCH);
+}
+
+/* One word is copied, and only where it is one of a header or of contents. */
+static void words_written_back(struct store *s)
+{
+    const size_t n = s->n, outside[] = {0, 1, 2, n, n + 1, ((size_t)1 << 32) + PREFIX, SIZE_MAX};
+    const size_t inside[] = {PREFIX, PREFIX + HEADER_WORDS, CONTENTS, n - 1};
+    for (size_t i = PREFIX; i < n; i++)
+        s->w[i] = 1000 + (uint32_t)i;
+    keep(s);
+    for (size_t i = 0; i < sizeof outside / sizeof *outside; i++)
+        same("no word of a slot", board_write_back(STORE(s), outside[i]), BOARD_NO_WORD);
+    as_kept("no word is copied then", s);
+    for (size_t i = 0; i < sizeof inside / sizeof *inside; i++) {
+        same("a word of a slot", board_write_back(STORE(s), inside[i]), 0);
+        s->last[inside[i]] = s->w[inside[i]];
+        as_kept("that word alone is copied", s);
+    }
+}
+
+/* A cut within the store of a header, for each way in which some of its words, and not all, have arrived: what is left
+   counts as free, and one recover call zeroes it. */
+static void header_torn(struct store *s)
+{
+    uint32_t whole[HEADER_WORDS];
+    same("begin", board_begin(STORE(s), 0), 0);
+    same("new", board_new(STORE(s), 0, KEY, value, VALUE_WORDS), 0);
+    same("end", board_end(STORE(s), 0), 0);
+    same("the clock is 3", board_advance(STORE(s)), BOARD_TICKED);
+    same("the contents", board_advance(STORE(s)), BOARD_STORED);
+    keep(s);
+    same("the header", board_advance(STORE(s)), BOARD_STORED);
+    memcpy(whole, s->p + PREFIX, sizeof whole);
+    for (unsigned arrived = 1; arrived < (1 << HEADER_WORDS) - 1; arrived++) {
+        for (size_t i = 0; i < HEADER_WORDS; i++)
+            s->p[PREFIX + i] = arrived >> i & 1 ? whole[i] : 0;
+        same("the image is accepted", board_clock((const uint8_t *)s->p, 4 * s->n), 3);
+        power_cut(s);
+        same("recovery zeroes what is left", board_recover(STORE(s)), BOARD_WENT_ON);
+        as_kept("as before the store", s);
+        same("recovery", board_recover(STORE(s)), BOARD_DONE);
+        same("the job is not there", board_read_refusal(STORE(s), 0, KEY), BOARD_NO_JOB);
+    }
+}
+
+/* A header with a word out of range is refused where all four words are there, and counts as free where one is 0. */
+static void header_out_of_range(struct store *s)
+{
+    memcpy(s->p + PREFIX, (uint32_t[HEADER_WORDS]){4, 2, 2, 1}, HEADER_WORDS * sizeof *s->p);
+    same("kind 4", board_recover(STORE(s)), BOARD_REFUSED + BOARD_BAD_SLOT);
+    s->p[PREFIX + BOARD] = 0;
+    same("kind 4 without a board", board_recover(STORE(s)), BOARD_WENT_ON);
+    same("it is zeroed", s->p[PREFIX + KIND], 0);
+}
 
 int main(void)
 {
-    const size_t n = board_image_words(SLOTS, WORDS), tn = board_transient_words(SLOTS, THREADS);
-    uint32_t *w = block(n), *p = block(n), *t = block(tn);
-    const uint32_t value[VALUE_WORDS] = {31, 32};
-    const size_t header = 3, contents = header + HEADER_WORDS * SLOTS;
-
-    same("format", board_format(w, n, p, n, t, tn, SLOTS, WORDS), 0);
-    same("a sync where nothing changed", board_sync(w, n, p, n, t, tn), 2);
-    same("the clock after it", p[2], 4);
-    same("begin", board_begin(w, n, p, n, t, tn, 0), 0);
-    same("new", board_new(w, n, p, n, t, tn, 0, 7, value, VALUE_WORDS), 0);
-    same("a sync with an operation open", board_sync(w, n, p, n, t, tn), BOARD_REFUSED + BOARD_STILL_OPEN);
-    same("an advance", board_advance(w, n, p, n, t, tn), BOARD_TICKED);
-    same("the next with the operation open", board_advance(w, n, p, n, t, tn), BOARD_REFUSED + BOARD_STILL_OPEN);
-    same("end", board_end(w, n, p, n, t, tn, 0), 0);
-
-    same("the job's contents", board_advance(w, n, p, n, t, tn), BOARD_STORED);
-    same("the key in persistent", p[contents], 7);
-    same("its header is not there yet", p[header], 0);
-    same("the job's header", board_advance(w, n, p, n, t, tn), BOARD_STORED);
-    same("the kind in persistent", p[header], 1);
-    same("the board in persistent", p[header + BOARD], 1);
-    same("the survivors before the tick", board_survivors((const uint8_t *)p, 4 * n), 0);
-    same("the clock", board_advance(w, n, p, n, t, tn), BOARD_TICKED);
-    same("the survivors after it", board_survivors((const uint8_t *)p, 4 * n), 1);
-
-    same("a line of no slot", board_write_back(w, n, p, n, t, tn, SLOTS, 0), BOARD_NO_LINE);
-    same("no line of a slot", board_write_back(w, n, p, n, t, tn, 0, 2), BOARD_NO_LINE);
-    same("begin, to delete", board_begin(w, n, p, n, t, tn, 1), 0);
-    same("delete", board_delete(w, n, p, n, t, tn, 1, 7), 0);
-    same("end of it", board_end(w, n, p, n, t, tn, 1), 0);
-    same("the DELETE's header written back", board_write_back(w, n, p, n, t, tn, 1, 1), 0);
-    same("the kind there", p[header + HEADER_WORDS], 3);
-    same("the board there", p[header + HEADER_WORDS + BOARD], 1);
-
-    /* the power is cut: the delete is of the clock's epoch and is lost, the job is not */
-    memset(w, 0x5A, n * sizeof *w);
-    memset(t, 0x5A, tn * sizeof *t);
-    same("recovery frees the DELETE", board_recover(w, n, p, n, t, tn), BOARD_WENT_ON);
-    same("recovery", board_recover(w, n, p, n, t, tn), BOARD_DONE);
-    uint64_t at = board_read(w, n, p, n, t, tn, 0, 7);
-    same("where the job stands", at, contents + 1);
-    if (at + VALUE_WORDS <= n)
-        same("its value", (uint64_t)memcmp(w + at, value, sizeof value), 0);
-
-    same("begin again", board_begin(w, n, p, n, t, tn, 0), 0);
-    same("delete again", board_delete(w, n, p, n, t, tn, 0, 7), 0);
-    same("end again", board_end(w, n, p, n, t, tn, 0), 0);
-    same("the lines of a sync", board_sync(w, n, p, n, t, tn), 4);
-    same("the survivors after the sync", board_survivors((const uint8_t *)p, 4 * n), 0);
-
-    w[2] = p[2] = 4000000000;
-    same("an advance at the last epoch", board_advance(w, n, p, n, t, tn), BOARD_REFUSED + BOARD_LAST_EPOCH);
-    same("a sync at the last epoch", board_sync(w, n, p, n, t, tn), BOARD_REFUSED + BOARD_LAST_EPOCH);
-
-    free(w);
-    free(p);
-    free(t);
+    struct store s = new_store();
+    made_lasting(&s);
+    delete_lost(&s);
+    deleted_and_the_end(&s);
+    free_store(&s);
+    s = new_store();
+    words_written_back(&s);
+    free_store(&s);
+    s = new_store();
+    header_torn(&s);
+    header_out_of_range(&s);
+    free_store(&s);
     printf("%zu answers, %zu wrong\n", calls, failed);
     return failed > 0;
 }

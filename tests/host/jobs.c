@@ -10,7 +10,7 @@ enum { JOBS = 1 }; /* the board of jobs */
 
 _Static_assert(BOARD_NO_THREAD == 5 && BOARD_ALREADY_OPEN == 6 && BOARD_NOT_OPEN == 7 && BOARD_BAD_ARGUMENT == 8 &&
                    BOARD_NEWER == 9 && BOARD_NO_JOB == 10 && BOARD_JOB_EXISTS == 11 && BOARD_NO_UID == 12 &&
-                   BOARD_FULL == 13 && BOARD_STILL_OPEN == 14 && BOARD_LAST_EPOCH == 15 && BOARD_NO_LINE == 16 &&
+                   BOARD_FULL == 13 && BOARD_STILL_OPEN == 14 && BOARD_LAST_EPOCH == 15 && BOARD_NO_WORD == 16 &&
                    BOARD_EMPTY == 17,
                "the header's refusals");
 _Static_assert(BOARD_STORED == 0 && BOARD_TICKED == 1, "the header's replies");
@@ -67,7 +67,8 @@ static void boards(void)
     header_is("the DELETE's header", w, 4, DELETE, 4, 2, JOBS);
     same("delete 7, which has a new version", board_delete(w, n, p, n, t, tn, 0, 7), 0);
     header_is("the header turned into a DELETE", w, 3, DELETE, 4, 1, JOBS);
-    same("the header written back", board_write_back(w, n, p, n, t, tn, 4, 1), 0);
+    for (size_t i = 0; i < HEADER_WORDS; i++)
+        same("a word written back", board_write_back(w, n, p, n, t, tn, PREFIX + HEADER_WORDS * 4 + i), 0);
     header_is("what the memory wrote back", p, 4, DELETE, 4, 2, JOBS);
 
     free(w);
@@ -119,7 +120,7 @@ int main(void)
     same("end again", board_end(w, n, p, n, t, tn, 0), BOARD_NOT_OPEN);
     same("the persistent image", (uint64_t)memcmp(p, fresh, n * sizeof *p), 0);
 
-    same("a line of no slot", board_write_back(w, n, p, n, t, tn, SLOTS, 0), BOARD_NO_LINE);
+    same("a word past the end", board_write_back(w, n, p, n, t, tn, n), BOARD_NO_WORD);
     same("sync of one job made and one made and deleted", board_sync(w, n, p, n, t, tn), 6);
     same("the clock", board_clock((const uint8_t *)p, n * sizeof *p), 4);
     same("the survivors", board_survivors((const uint8_t *)p, n * sizeof *p), 1);

@@ -83,7 +83,7 @@ static void each_declines(struct store *s, const struct store *before)
     DECLINES(board_look_refusal(STORE(s), 0), BOARD_SIZES);
     DECLINES(board_advance(STORE(s)), wide);
     DECLINES(board_sync(STORE(s)), wide);
-    DECLINES(board_write_back(STORE(s), 0, 0), BOARD_SIZES);
+    DECLINES(board_write_back(STORE(s), 0), BOARD_SIZES);
 #undef DECLINES
 }
 

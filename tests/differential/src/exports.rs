@@ -64,6 +64,5 @@ extern "C" {
     pub fn board_look_refusal(w: Words, wl: usize, p: Words, pl: usize, t: Words, tl: usize, thread: u32) -> u32;
     pub fn board_advance(w: Words, wl: usize, p: Words, pl: usize, t: Words, tl: usize) -> u64;
     pub fn board_sync(w: Words, wl: usize, p: Words, pl: usize, t: Words, tl: usize) -> u64;
-    pub fn board_write_back(w: Words, wl: usize, p: Words, pl: usize, t: Words, tl: usize, slot: u32, line: u32)
-        -> u32;
+    pub fn board_write_back(w: Words, wl: usize, p: Words, pl: usize, t: Words, tl: usize, position: usize) -> u32;
 }

@@ -113,7 +113,7 @@ pub fn any(slices: Slices, call: &Call) -> u64 {
             Call::Recover => recover(slices, call),
             Call::Advance => board_advance(w, wl, p, pl, t, tl),
             Call::Sync => board_sync(w, wl, p, pl, t, tl),
-            Call::WriteBack { slot, line } => u64::from(board_write_back(w, wl, p, pl, t, tl, slot, line)),
+            Call::WriteBack { position } => u64::from(board_write_back(w, wl, p, pl, t, tl, position)),
             _ => change(slices, call),
         }
     }

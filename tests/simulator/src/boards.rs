@@ -5,14 +5,15 @@ use crate::calls::{refusal_of, simulate, Call};
 use crate::image::{Header, Sizes, JOBS};
 use crate::store::Store;
 
-/// The image with every filled mark on the board of jobs, and every other on none.
+/// The image with every filled mark on the board of jobs, and every other as it is.
 pub fn as_jobs(image: &[u32]) -> Vec<u32> {
     let mut image = image.to_vec();
     let Some(sizes) = Sizes::of(&image) else { return image };
     for slot in 0..sizes.slots {
         let header = sizes.header(&image, slot);
-        let board = if header.is_filled() { JOBS } else { 0 };
-        sizes.set_header(&mut image, slot, Header { board, ..header });
+        if header.is_filled() {
+            sizes.set_header(&mut image, slot, Header { board: JOBS, ..header });
+        }
     }
     image
 }

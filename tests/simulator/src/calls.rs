@@ -6,6 +6,7 @@ use crate::recovery::Progress;
 use crate::store::{Refusal, Store};
 use crate::transient::Layout;
 use crate::{changes, epochs, queue, recovery};
+use std::ops::Range;
 
 #[derive(Clone, PartialEq, Eq, Debug)]
 pub enum Call {
@@ -24,7 +25,7 @@ pub enum Call {
     LookRefusal { thread: u32 },
     Advance,
     Sync,
-    WriteBack { slot: u32, line: u32 },
+    WriteBack { position: usize },
 }
 
 pub const WENT_ON: u64 = 0;
@@ -55,7 +56,7 @@ pub fn simulate(store: &mut Store, call: &Call) -> u64 {
         Call::LookRefusal { thread } => plain(queue::look(store, *thread).map(|_| ())),
         Call::Advance => wide(epochs::advance(store).map(step_number)),
         Call::Sync => wide(epochs::sync(store)),
-        Call::WriteBack { slot, line } => plain(epochs::write_back(store, *slot, *line)),
+        Call::WriteBack { position } => plain(epochs::write_back(store, *position)),
     }
 }
 
@@ -71,6 +72,11 @@ pub fn refusal_of(call: &Call, reply: u64) -> Refusal {
     let is_wide = gives_a_place || matches!(call, Call::Recover | Call::Advance | Call::Sync);
     let refusal = if is_wide { reply.saturating_sub(REFUSED) } else { reply };
     u32::try_from(refusal).unwrap_or(Refusal::MAX)
+}
+
+/// The memory copies the words of a line by itself, one after another.
+pub fn line_written_back(line: Range<usize>) -> Vec<Call> {
+    line.map(|position| Call::WriteBack { position }).collect()
 }
 
 /// The length of an image in words, 0 for sizes out of range.

@@ -27,7 +27,8 @@ pub fn bare_image(random: &mut Random, sizes: Sizes, clock: u32) -> Vec<u32> {
 }
 
 /// An image that recovery accepts: each uid has a board, a key of its own there, and versions of different labels. Uids
-/// count up or down, and so do order numbers. At most `most_filled` slots are filled.
+/// count up or down, and so do order numbers. At most `most_filled` slots are filled; in half of the images some of the
+/// others hold remains.
 pub fn acceptable_image(random: &mut Random, sizes: Sizes, clock: u32, most_filled: usize) -> Vec<u32> {
     let mut image = bare_image(random, sizes, clock);
     let (has_high_uids, has_high_orders) = (random.chance(20), random.chance(35));
@@ -56,7 +57,59 @@ pub fn acceptable_image(random: &mut Random, sizes: Sizes, clock: u32, most_fill
             left -= 1;
         }
     }
+    if random.chance(50) {
+        leave_remains(random, sizes, &mut image);
+    }
     image
+}
+
+/// What is left of a mark of which only some words were stored, or zeroed: one, two or three of them are 0, most often one.
+pub fn torn(random: &mut Random, header: Header) -> Header {
+    let zeros = if random.chance(50) { 1 << random.below(4) } else { random.between(1, 14) };
+    let [kind, epoch, uid, board] = header.words();
+    let word = |bit: u32, word: u32| if zeros >> bit & 1 == 1 { 0 } else { word };
+    Header { kind: word(0, kind), epoch: word(1, epoch), uid: word(2, uid), board: word(3, board) }
+}
+
+/// Remains in one free slot of three: of a mark like one in the image, or of any mark, a kind above 3 among them.
+fn leave_remains(random: &mut Random, sizes: Sizes, image: &mut [u32]) {
+    let clock = image[CLOCK];
+    let filled: Vec<Header> = sizes.headers(image).into_iter().filter(|header| header.is_filled()).collect();
+    for slot in 0..sizes.slots {
+        if sizes.header(image, slot) != Header::FREE || !random.chance(33) {
+            continue;
+        }
+        let like = if filled.is_empty() || random.chance(30) { any_mark(random, clock) } else { random.pick(&filled) };
+        let epochs = recent_epochs(clock);
+        let epoch = match random.below(3) {
+            0 => like.epoch,
+            1 => like.epoch.saturating_add(1),
+            _ => random.between(*epochs.start(), *epochs.end()),
+        };
+        let remains = torn(random, Header { epoch, ..like });
+        sizes.set_header(image, slot, remains);
+    }
+}
+
+/// A mark of four nonzero words, each of them now and then out of range.
+fn any_mark(random: &mut Random, clock: u32) -> Header {
+    Header {
+        kind: random.pick(&[1, 1, 2, 2, 3, 3, 4, u32::MAX]),
+        epoch: if random.chance(80) { random.between(FIRST_CLOCK, clock) } else { wild_epoch(random, clock).max(1) },
+        uid: random.pick(&[1, 2, 3, 7, LARGEST, LARGEST + 1]),
+        board: random.pick(&[JOBS, JOBS, JOBS, QUEUE, QUEUE, QUEUE + 1, u32::MAX]),
+    }
+}
+
+/// Tears up to three marks, filled ones where there are any.
+fn tear_marks(random: &mut Random, sizes: Sizes, image: &mut [u32]) {
+    let filled: Vec<usize> = (0..sizes.slots).filter(|&slot| sizes.header(image, slot).is_filled()).collect();
+    for _ in 0..random.between(1, 3) {
+        let slot = if filled.is_empty() { random.below(sizes.slots) } else { random.pick(&filled) };
+        let whole = if filled.is_empty() { any_mark(random, image[CLOCK]) } else { sizes.header(image, slot) };
+        let remains = torn(random, whole);
+        sizes.set_header(image, slot, remains);
+    }
 }
 
 /// Labels that a mark can have at this clock, the latest few.
@@ -65,7 +118,7 @@ fn recent_epochs(clock: u32) -> std::ops::RangeInclusive<u32> {
 }
 
 /// Properly filled marks with few uids and few keys, so that equal ones are common. One image of five has any boards, the
-/// others one or both; one of six has keys around the last order number.
+/// others one or both; one of six has keys around the last order number; one of three has remains in free slots.
 pub fn crowded_image(random: &mut Random, sizes: Sizes, clock: u32) -> Vec<u32> {
     let mut image = bare_image(random, sizes, clock);
     let (most, most_keys) = (2 * sizes.slots as u32, random.pick(&[1, 2]) * sizes.slots as u32);
@@ -87,6 +140,9 @@ pub fn crowded_image(random: &mut Random, sizes: Sizes, clock: u32) -> Vec<u32> 
         sizes.set_header(&mut image, slot, header);
         sizes.set_contents(&mut image, slot, key, &value);
     }
+    if random.chance(33) {
+        leave_remains(random, sizes, &mut image);
+    }
     image
 }
 
@@ -106,8 +162,8 @@ fn any_board(random: &mut Random) -> u32 {
 
 fn no_board(random: &mut Random) -> u32 {
     match random.below(5) {
-        0 | 1 => 0,
-        2 => QUEUE + 1,
+        0 => 0,
+        1 | 2 => QUEUE + 1,
         3 => u32::MAX,
         _ => random.word().max(QUEUE + 1),
     }
@@ -194,12 +250,14 @@ pub fn any_image(random: &mut Random, sizes: Sizes) -> Vec<u32> {
         damage_boards(random, sizes, &mut image);
     } else if random.chance(25) {
         damage_order(random, sizes, &mut image);
+    } else if random.chance(15) {
+        tear_marks(random, sizes, &mut image);
     }
     image
 }
 
 /// A copy with a few words replaced and now and then a wrong length; or a copy in which all is sound but the notes,
-/// which say another N, alone or with the T that it leaves for their length; or one with marks on other boards.
+/// which say another N, alone or with the T that it leaves for their length; or one with marks on other boards, or torn.
 pub fn damaged_store(random: &mut Random, store: &Store) -> Store {
     let mut store = store.clone();
     let other_notes = notes_of_other_sizes(&store);
@@ -216,6 +274,9 @@ pub fn damaged_store(random: &mut Random, store: &Store) -> Store {
     }
     if random.chance(20) {
         return store_on_other_boards(random, store);
+    }
+    if random.chance(25) {
+        return store_with_remains(random, store);
     }
     for _ in 0..random.between(1, 3) {
         let slice = random.below(3);
@@ -239,6 +300,25 @@ fn store_on_other_boards(random: &mut Random, mut store: Store) -> Store {
             let newer = Header { epoch: entry.clock + 1, ..header };
             entry.sizes.set_header(&mut store.working, slot, newer);
         }
+    }
+    store
+}
+
+/// Torn marks in working, now and then in the lasting image too, some with a label above every epoch that can be open:
+/// such a slot is free, whatever its kind and key.
+fn store_with_remains(random: &mut Random, mut store: Store) -> Store {
+    let Ok(entry) = store.enter() else { return store };
+    tear_marks(random, entry.sizes, &mut store.working);
+    leave_remains(random, entry.sizes, &mut store.working);
+    for slot in entry.slots() {
+        let header = entry.header(&store, slot);
+        if header.is_remains() && header.epoch != 0 && random.chance(50) {
+            let newer = Header { epoch: entry.clock + 1, ..header };
+            entry.sizes.set_header(&mut store.working, slot, newer);
+        }
+    }
+    if random.chance(30) {
+        tear_marks(random, entry.sizes, &mut store.persistent);
     }
     store
 }
@@ -274,19 +354,25 @@ pub fn wild_store(random: &mut Random, slots: u32) -> Store {
 }
 
 /// Half of these images are calm: no label is above an epoch that can be open, so that queue calls get past 9. Where
-/// there are few keys, several slots have one.
+/// there are few keys, several slots have one. A third of the marks is torn, and one of ten is free.
 fn wild_image(random: &mut Random, sizes: Sizes, clock: u32) -> Vec<u32> {
     let mut image = bare_image(random, sizes, clock);
     let calm = random.pick(&[None, None, Some(clock), Some(clock - 1)]);
     let (most, keys) = (random.pick(&[JOBS, QUEUE]), random.pick(&[1, 4]));
     for slot in 0..sizes.slots {
-        let kind = random.pick(&[0, 0, 1, 1, 2, 2, 3, 4, u32::MAX]);
+        let kind = random.pick(&[1, 1, 1, 1, 2, 2, 2, 2, 3, 3, 4, u32::MAX]);
         let board = if random.chance(50) { most } else { any_board(random) };
         let epoch = match calm {
             Some(latest) => latest.saturating_sub(random.pick(&[0, 0, 1, 2])),
             None => wild_epoch(random, clock),
         };
-        let header = Header { kind, epoch, uid: edge_word(random, 1), board };
+        let uid = if random.chance(80) { random.between(1, 12) } else { edge_word(random, 1) };
+        let whole = Header { kind, epoch, uid, board };
+        let header = match random.below(10) {
+            0 => Header::FREE,
+            1..=3 => torn(random, whole),
+            _ => whole,
+        };
         let value = random.junk(sizes.value_words());
         let key = if random.chance(90) { random.between(0, keys) } else { last_order(random) };
         sizes.set_header(&mut image, slot, header);

@@ -1,6 +1,6 @@
-//! Advance, sync and the line written back.
+//! Advance, sync and the word written back.
 
-use crate::image::{Header, CLOCK, DELETE, LARGEST};
+use crate::image::{Header, CLOCK, LARGEST, PREFIX};
 use crate::store::{Entry, Refusal, Store};
 use crate::transient::{PHASE, PLACE_SLOT};
 
@@ -53,18 +53,14 @@ pub fn sync(store: &mut Store) -> Result<u64, Refusal> {
     Ok(lines)
 }
 
-/// "line code other than 0 (contents) and 1 (mark)" is refused with 16.
-pub fn write_back(store: &mut Store, slot: u32, line: u32) -> Result<(), Refusal> {
+/// 02, No. 4: "the memory may copy single words on its own; the call for this now takes the word's position in the image,
+/// from 0", and "16 is now given for a word outside the marks and contents".
+pub fn write_back(store: &mut Store, position: usize) -> Result<(), Refusal> {
     let entry = store.enter()?;
-    let slot = slot as usize;
-    if slot >= entry.sizes.slots || line > 1 {
+    if !(PREFIX..entry.sizes.image_words()).contains(&position) {
         return Err(16);
     }
-    if line == 0 {
-        store_contents(store, &entry, slot);
-    } else {
-        store_header(store, &entry, slot);
-    }
+    store.persistent[position] = store.working[position];
     Ok(())
 }
 
@@ -120,10 +116,10 @@ fn is_reclaimable(store: &Store, entry: &Entry, slot: usize) -> bool {
     let retired = u64::from(entry.retired(store, slot));
     let clock = u64::from(entry.clock);
     let retired_payload = header.is_payload() && retired != 0 && retired + 2 == clock;
-    retired_payload || (header.kind == DELETE && u64::from(header.epoch) + 3 == clock)
+    retired_payload || (header.is_delete() && u64::from(header.epoch) + 3 == clock)
 }
 
-/// "becomes free in both images"
+/// "becomes free in both images"; 02, No. 4: "A call that changes both images changes working first."
 fn reclaim(store: &mut Store, entry: &Entry, slot: usize) {
     entry.sizes.set_header(&mut store.working, slot, Header::FREE);
     entry.sizes.set_header(&mut store.persistent, slot, Header::FREE);

@@ -2,11 +2,12 @@
 
 use crate::calls::{image_words, refusal_of, simulate, transient_words, Call, WENT_ON};
 use crate::damage::{acceptable_image, any_clock, edge_word};
-use crate::image::{Sizes, JOBS};
+use crate::image::{Sizes, DELETE, JOBS, PREFIX};
 use crate::queue::front;
 use crate::random::Random;
 use crate::store::{Entry, Store};
-use crate::trace::{Event, Line, Trace};
+use crate::torn::any_mix;
+use crate::trace::{Event, Trace};
 
 /// A store whose three slices have the right lengths and hold any words.
 pub fn unformatted(random: &mut Random, slots: u32, words: u32, threads: u32) -> Store {
@@ -18,7 +19,8 @@ pub fn unformatted(random: &mut Random, slots: u32, words: u32, threads: u32) ->
     }
 }
 
-/// What format left, or what recover left of an image it accepts or of an earlier run.
+/// What format left, or what recover left of an image it accepts or of an earlier run, which a cut within a store may have
+/// ended.
 pub fn start(random: &mut Random, slots: u32) -> Store {
     let most_words = random.pick(&[3, 4, 4, 9]);
     let words = random.between(2, most_words);
@@ -32,17 +34,33 @@ pub fn start(random: &mut Random, slots: u32) -> Store {
         let clock = any_clock(random);
         let filled = if random.chance(50) { slots as usize } else { slots as usize / 2 };
         store.persistent = acceptable_image(random, sizes, clock, filled);
-        recover_fully(&mut store);
+        recover_fully(random, &mut store);
     }
     if random.chance(30) {
         some_calls(random, &mut store, 60);
-        recover_fully(&mut store);
+        cut_within(random, &mut store, &Call::Advance);
+        recover_fully(random, &mut store);
     }
     store
 }
 
-fn recover_fully(store: &mut Store) {
-    while simulate(store, &Call::Recover) == WENT_ON {}
+/// Recover calls up to "done", one of five of them cut within its store.
+fn recover_fully(random: &mut Random, store: &mut Store) {
+    loop {
+        let reply =
+            if random.chance(20) { cut_within(random, store, &Call::Recover) } else { simulate(store, &Call::Recover) };
+        if reply != WENT_ON {
+            return;
+        }
+    }
+}
+
+/// A call of whose store into the lasting image only some words arrive.
+fn cut_within(random: &mut Random, store: &mut Store, call: &Call) -> u64 {
+    let before = store.persistent.clone();
+    let reply = simulate(store, call);
+    store.persistent = any_mix(&before, &store.persistent, random);
+    reply
 }
 
 /// A start and calls on it, made up by watching the simulator.
@@ -65,7 +83,7 @@ pub fn calls_of(random: &mut Random, store: &mut Store, mix: Mix, length: usize)
         let call = any_call(random, store, mix);
         if call == Call::Sync && random.chance(67) {
             events.extend(end_of_each(store));
-            events.push(Event::Sync(lines_within_a_sync(random, store)));
+            events.push(Event::Sync(words_within_a_sync(random, store)));
         } else {
             events.push(Event::Call(call));
         }
@@ -81,39 +99,37 @@ fn end_of_each(store: &mut Store) -> Vec<Event> {
     ends.filter(|end| simulate(store, end) == 0).map(Event::Call).collect()
 }
 
-/// Up to three lines before each advance call of a sync on this store, none where it is refused.
-fn lines_within_a_sync(random: &mut Random, store: &Store) -> Vec<Vec<Line>> {
+/// Up to four words before each advance call of a sync on this store, none where it is refused.
+fn words_within_a_sync(random: &mut Random, store: &Store) -> Vec<Vec<usize>> {
     let mut store = store.clone();
     let reply = simulate(&mut store.clone(), &Call::Sync);
     let advances = if refusal_of(&Call::Sync, reply) == 0 { reply } else { 0 };
-    let mut lines = Vec::new();
+    let mut words = Vec::new();
     for _ in 0..advances {
         let mut before_it = Vec::new();
-        for _ in 0..random.below(4) {
-            let (slot, line) = any_line(random, &store);
-            simulate(&mut store, &Call::WriteBack { slot, line });
-            before_it.push((slot, line));
+        for _ in 0..random.below(5) {
+            let position = any_word(random, &store);
+            simulate(&mut store, &Call::WriteBack { position });
+            before_it.push(position);
         }
-        lines.push(before_it);
+        words.push(before_it);
         simulate(&mut store, &Call::Advance);
     }
-    lines
+    words
 }
 
-/// Any line, most often one that differs in the two images.
-fn any_line(random: &mut Random, store: &Store) -> Line {
-    let sizes = Sizes::of(&store.working).expect("a run keeps the sizes");
-    let differs = |&(slot, line): &Line| {
-        let part = if line == 0 { sizes.contents_line(slot as usize) } else { sizes.header_line(slot as usize) };
-        store.working[part.clone()] != store.persistent[part]
-    };
-    let all = (0..sizes.slots as u32).flat_map(|slot| [(slot, 0), (slot, 1)]);
-    let differing: Vec<Line> = all.filter(differs).collect();
-    if differing.is_empty() || random.chance(30) {
-        (random.below(sizes.slots) as u32, random.between(0, 1))
-    } else {
-        random.pick(&differing)
+/// A word of a mark or of contents, most often one that differs in the two images, and of these one of a mark.
+fn any_word(random: &mut Random, store: &Store) -> usize {
+    let length = store.working.len().min(store.persistent.len());
+    let differing: Vec<usize> =
+        (PREFIX..length).filter(|&position| store.working[position] != store.persistent[position]).collect();
+    if differing.is_empty() || random.chance(20) {
+        return PREFIX + random.below(length.saturating_sub(PREFIX).max(1));
     }
+    let contents = Sizes::of(&store.working).map_or(length, |sizes| sizes.contents_line(0).start);
+    let of_marks = differing.partition_point(|&position| position < contents);
+    let part = if of_marks > 0 && random.chance(60) { &differing[..of_marks] } else { &differing };
+    random.pick(part)
 }
 
 /// How often a call has to do with epochs, in percent, and how many keys are in play.
@@ -140,7 +156,7 @@ pub fn epoch_call(random: &mut Random, store: &Store) -> Call {
     }
     match random.below(20) {
         0 => Call::Sync,
-        1..=4 => line_written_back(random, store),
+        1..=7 => word_written_back(random, store),
         _ => Call::Advance,
     }
 }
@@ -152,12 +168,12 @@ fn blocking_thread(store: &Store) -> Option<u32> {
     (0..entry.layout.threads).find(blocks).map(|thread| thread as u32)
 }
 
-fn line_written_back(random: &mut Random, store: &Store) -> Call {
-    let slots = store.working.first().map_or(2, |&slots| slots.clamp(2, 1024));
-    if random.chance(10) {
-        return Call::WriteBack { slot: edge_word(random, slots), line: edge_word(random, 1) };
-    }
-    Call::WriteBack { slot: random.below(slots as usize) as u32, line: random.between(0, 1) }
+/// Now and then a word outside the marks and contents, or the first or last of them.
+fn word_written_back(random: &mut Random, store: &Store) -> Call {
+    let length = store.working.len();
+    let edges = [0, 1, 2, 3, length.saturating_sub(1), length, length + 1, (1 << 32) + 3, usize::MAX];
+    let position = if random.chance(10) { random.pick(&edges) } else { any_word(random, store) };
+    Call::WriteBack { position }
 }
 
 /// Begin, end, a call on jobs or one on the queue.
@@ -208,15 +224,19 @@ fn job_call(random: &mut Random, store: &Store, entry: Option<Entry>, thread: u3
     }
 }
 
-/// A key of the board, most often that of a live job where one is wanted; or that of a live slot on another board, a
-/// queue entry or what damage has put there, which looks like a job and is none.
+/// A key of the board, most often that of a live job where one is wanted; or that of a slot that looks like a job and is
+/// none, a live one on another board (a queue entry, or what damage has put there) or one with remains.
 fn any_key(random: &mut Random, store: &Store, entry: Option<Entry>, keys: u32, wants_held: bool) -> u32 {
     if random.chance(2) {
         return edge_word(random, keys);
     }
     let Some(entry) = entry else { return random.between(1, keys) };
-    let live = entry.slots().filter(|&slot| entry.is_live(store, slot));
-    let (held, strays): (Vec<usize>, Vec<usize>) = live.partition(|&slot| entry.header(store, slot).board == JOBS);
+    let looks_like_a_job = |&slot: &usize| {
+        let header = entry.header(store, slot);
+        entry.is_live(store, slot) || (header.is_remains() && (1..=DELETE).contains(&header.kind))
+    };
+    let is_job = |&slot: &usize| entry.is_live(store, slot) && entry.header(store, slot).board == JOBS;
+    let (held, strays): (Vec<usize>, Vec<usize>) = entry.slots().filter(looks_like_a_job).partition(is_job);
     if !strays.is_empty() && random.chance(30) {
         entry.sizes.key(&store.working, random.pick(&strays))
     } else if !wants_held || random.chance(20) {

@@ -87,8 +87,7 @@ impl Sizes {
     }
 
     pub fn set_header(self, image: &mut [u32], slot: usize, header: Header) {
-        let line = [header.kind, header.epoch, header.uid, header.board];
-        image[self.header_line(slot)].copy_from_slice(&line);
+        image[self.header_line(slot)].copy_from_slice(&header.words());
     }
 
     pub fn key(self, image: &[u32], slot: usize) -> u32 {
@@ -123,22 +122,42 @@ impl Header {
     /// 02, No. 2: "A free mark is now four zeros"
     pub const FREE: Header = Header { kind: 0, epoch: 0, uid: 0, board: 0 };
 
+    pub fn words(self) -> [u32; HEADER_WORDS] {
+        [self.kind, self.epoch, self.uid, self.board]
+    }
+
+    /// 02, No. 4: "A mark with any of its four words 0 counts as free". Such a mark is not whole.
+    pub fn is_whole(self) -> bool {
+        !self.words().contains(&0)
+    }
+
+    /// "what is left of such marks": not whole, and not four zeros either.
+    pub fn is_remains(self) -> bool {
+        !self.is_whole() && self != Header::FREE
+    }
+
+    /// Whole, and of a kind that there is. Calls other than recover take any other mark as free.
     pub fn is_filled(self) -> bool {
-        (ALLOC..=DELETE).contains(&self.kind)
+        self.is_whole() && self.kind <= DELETE
     }
 
     pub fn is_payload(self) -> bool {
-        self.kind == ALLOC || self.kind == UPDATE
+        self.is_whole() && (self.kind == ALLOC || self.kind == UPDATE)
+    }
+
+    pub fn is_delete(self) -> bool {
+        self.is_whole() && self.kind == DELETE
     }
 
     /// "A filled mark has a label from 2 to the clock and a uid from 1 to 4,000,000,000."
     /// 02, No. 3: "condition 3 admits boards 1 and 2"
+    /// 02, No. 4: "of marks, condition 3 rejects only those of four nonzero words, one out of range"
     pub fn is_proper(self, clock: u32) -> bool {
-        let properly_filled = self.is_filled()
+        let in_range = self.kind <= DELETE
             && (FIRST_CLOCK..=clock).contains(&self.epoch)
-            && (1..=LARGEST).contains(&self.uid)
-            && (self.board == JOBS || self.board == QUEUE);
-        self == Header::FREE || properly_filled
+            && self.uid <= LARGEST
+            && self.board <= QUEUE;
+        !self.is_whole() || in_range
     }
 
     /// "A slot is kept when it is filled and label + 2 ≤ clock."

@@ -4,7 +4,8 @@
 //! No code is shared with the library, but where 01 is silent its choices are followed, as each word is compared: the
 //! layout of the notes (`transient`), the phases of the place of an advance and where each step leaves it (`epochs`), and
 //! the readings of 01 in docs/DECISIONS.md. A choice that is wrong is wrong on both sides, and no comparison shows it.
-//! The plain board (`reference`) is from 01 and 02 alone, but for what it keeps of the operations that a sync made safe.
+//! The plain board (`reference`) is from 01 and 02 alone, but for what it keeps of the operations that a sync made safe;
+//! what a cut within a store can leave (`torn`) is from 02, No. 4, alone.
 
 pub mod boards;
 pub mod calls;
@@ -21,7 +22,9 @@ pub mod queue_cases;
 pub mod random;
 pub mod recovery;
 pub mod reference;
+pub mod remains;
 pub mod store;
 pub mod stored;
+pub mod torn;
 pub mod trace;
 pub mod transient;

@@ -39,6 +39,7 @@ impl Random {
 
     /// Any words; many of them small, as a store's own words are.
     pub fn junk(&mut self, length: usize) -> Vec<u32> {
-        (0..length).map(|_| if self.chance(50) { self.word() } else { self.between(0, 9) }).collect()
+        let word = |wide: u64| if wide.is_multiple_of(2) { (wide >> 32) as u32 } else { (wide >> 32) as u32 % 10 };
+        (0..length).map(|_| word(self.wide())).collect()
     }
 }

@@ -1,6 +1,6 @@
 //! Recovery, and what it takes an image to mean.
 
-use crate::image::{clock_in_range, Header, Name, Sizes, CLOCK, DELETE, LARGEST, QUEUE};
+use crate::image::{clock_in_range, Header, Name, Sizes, CLOCK, LARGEST, QUEUE};
 use crate::store::{Refusal, Store};
 use crate::transient::Layout;
 use std::collections::BTreeMap;
@@ -32,7 +32,7 @@ pub fn judge(image: &[u32]) -> Result<Accepted, Refusal> {
     if headers.iter().any(|header| !header.is_proper(clock)) {
         return Err(3);
     }
-    let survivors: Vec<usize> = (0..sizes.slots).filter(|&slot| survives(&headers, clock, slot)).collect();
+    let survivors = survivors(&headers, clock);
     let names: Vec<Name> = survivors.iter().map(|&slot| sizes.name(image, slot)).collect();
     if names.iter().any(|&name| !is_proper(name)) {
         return Err(3);
@@ -51,11 +51,15 @@ fn is_proper((board, key): Name) -> bool {
     key != 0 && (board != QUEUE || key <= LARGEST)
 }
 
-/// "Of kept slots with one uid the largest label wins; a winner of kind 1 or 2 survives."
-fn survives(headers: &[Header], clock: u32, slot: usize) -> bool {
-    let mine = headers[slot];
-    let beats_mine = |other: &Header| other.is_kept(clock) && other.uid == mine.uid && other.epoch > mine.epoch;
-    mine.is_kept(clock) && mine.is_payload() && !headers.iter().any(beats_mine)
+/// "Of kept slots with one uid the largest label wins; a winner of kind 1 or 2 survives." In slot order.
+fn survivors(headers: &[Header], clock: u32) -> Vec<usize> {
+    let mut largest = BTreeMap::new();
+    for header in headers.iter().filter(|header| header.is_kept(clock)) {
+        let label = largest.entry(header.uid).or_insert(header.epoch);
+        *label = header.epoch.max(*label);
+    }
+    let wins = |header: Header| header.is_kept(clock) && header.epoch == largest[&header.uid];
+    (0..headers.len()).filter(|&slot| wins(headers[slot]) && headers[slot].is_payload()).collect()
 }
 
 fn has_equals<T: Ord>(mut items: Vec<T>) -> bool {
@@ -84,11 +88,13 @@ pub fn recover(store: &mut Store) -> Result<Progress, Refusal> {
 
 /// "first, in slot order, every filled slot that neither survives nor is a kept DELETE; then, in slot order,
 /// the kept DELETEs"
+/// 02, No. 4: "Recovery's first pass zeroes what is left of such marks too."
 fn next_to_free(image: &[u32], accepted: &Accepted) -> Option<usize> {
     let headers = accepted.sizes.headers(image);
-    let is_kept_delete = |slot: usize| headers[slot].kind == DELETE && headers[slot].is_kept(accepted.clock);
-    let is_first_pass =
-        |slot: usize| headers[slot].is_filled() && !accepted.survivors.contains(&slot) && !is_kept_delete(slot);
+    let is_kept_delete = |slot: usize| headers[slot].is_delete() && headers[slot].is_kept(accepted.clock);
+    let survives = |slot: usize| accepted.survivors.binary_search(&slot).is_ok();
+    let is_stale = |slot: usize| headers[slot].is_filled() && !survives(slot) && !is_kept_delete(slot);
+    let is_first_pass = |slot: usize| is_stale(slot) || headers[slot].is_remains();
     let mut first_pass = 0..headers.len();
     let mut second_pass = 0..headers.len();
     first_pass.find(|&slot| is_first_pass(slot)).or_else(|| second_pass.find(|&slot| is_kept_delete(slot)))

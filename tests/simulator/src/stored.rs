@@ -1,6 +1,6 @@
 //! The stored images: named byte strings for the lister and the server's questions.
 
-use crate::image::{Header, Sizes, ALLOC, CLOCK, DELETE, JOBS, LARGEST, QUEUE, UPDATE};
+use crate::image::{Header, Sizes, ALLOC, CLOCK, DELETE, HEADER_WORDS, JOBS, LARGEST, QUEUE, UPDATE};
 use crate::lister::bytes_of;
 
 /// The paper's example, "For words 2 2 7, 1 5 1, 2 6 1, 10 100, 10 200"; 02, No. 2: "01's worked marks gain a last 1"
@@ -40,6 +40,13 @@ pub fn on_board(mut image: Vec<u32>, slot: usize, board: u32) -> Vec<u32> {
     image
 }
 
+/// The image with these words as a slot's mark.
+pub fn with_mark(mut image: Vec<u32>, slot: usize, [kind, epoch, uid, board]: [u32; HEADER_WORDS]) -> Vec<u32> {
+    let sizes = Sizes::of(&image).expect("a stored image fits its sizes");
+    sizes.set_header(&mut image, slot, Header { kind, epoch, uid, board });
+    image
+}
+
 /// The image with these slots on the queue.
 pub fn queued(image: Vec<u32>, slots: &[usize]) -> Vec<u32> {
     slots.iter().fold(image, |image, &slot| on_board(image, slot, QUEUE))
@@ -66,12 +73,9 @@ pub fn full_queue() -> Vec<u32> {
 
 /// Every stored image with its name.
 pub fn stored_images() -> Vec<(String, Vec<u8>)> {
-    let mut all = Vec::new();
-    for (name, image) in
-        accepted().into_iter().chain(accepted_queues()).chain(refused_2()).chain(refused_3()).chain(refused_4())
-    {
-        all.push((name.to_string(), bytes_of(&image)));
-    }
+    let images = [accepted(), accepted_queues(), accepted_remains(), refused_2(), refused_3(), refused_4()].concat();
+    let mut all: Vec<(String, Vec<u8>)> =
+        images.into_iter().map(|(name, image)| (name.to_string(), bytes_of(&image))).collect();
     all.extend(refused_1().into_iter().map(|(name, bytes)| (name.to_string(), bytes)));
     all
 }
@@ -111,6 +115,37 @@ fn accepted_queues() -> Vec<(&'static str, Vec<u32>)> {
         ("last-order-number", queued(of_two((ALLOC, 5, 1, 3), (ALLOC, 5, 2, LARGEST)), &[1])),
         ("order-numbers-past-their-end-not-surviving", queued(image_with(4, 2, 9, &past_the_end), &[0, 1, 2, 3])),
         ("full-queue", full_queue()),
+    ]
+}
+
+/// 02, No. 4: "A mark with any of its four words 0 counts as free": beside a job, which survives.
+fn accepted_remains() -> Vec<(&'static str, Vec<u32>)> {
+    let beside = |mark: [u32; HEADER_WORDS]| with_mark(image_with(3, 3, 9, &[(ALLOC, 5, 1, 3), (0, 0, 0, 7)]), 1, mark);
+    let deleted = [(DELETE, 6, 2, 4), (ALLOC, 5, 2, 4), (ALLOC, 4, 1, 3), (UPDATE, 8, 1, 3)];
+    let in_two_passes = with_mark(image_with(6, 2, 9, &deleted), 4, [UPDATE, 5, 1, 0]);
+    vec![
+        ("remains-a-kind", beside([ALLOC, 0, 0, 0])),
+        ("remains-a-label", beside([0, 5, 0, 0])),
+        ("remains-a-uid", beside([0, 0, 2, 0])),
+        ("remains-a-board", beside([0, 0, 0, JOBS])),
+        ("remains-the-queues-board", beside([0, 0, 0, QUEUE])),
+        ("remains-without-kind", beside([0, 5, 2, JOBS])),
+        ("remains-without-label", beside([ALLOC, 0, 2, JOBS])),
+        ("remains-without-uid", beside([UPDATE, 5, 0, QUEUE])),
+        ("remains-without-board", beside([DELETE, 5, 2, 0])),
+        ("remains-of-kind-4", beside([4, 5, 2, 0])),
+        ("remains-of-label-1", beside([ALLOC, 1, 0, JOBS])),
+        ("remains-of-a-label-above-the-clock", beside([0, 10, 2, JOBS])),
+        ("remains-of-a-uid-past-its-end", beside([DELETE, 0, LARGEST + 1, JOBS])),
+        ("remains-of-board-3", beside([0, 5, 2, 3])),
+        ("remains-all-ones", beside([u32::MAX, u32::MAX, 0, u32::MAX])),
+        ("remains-of-a-later-version", beside([UPDATE, 6, 1, 0])),
+        ("remains-of-the-jobs-delete", beside([DELETE, 7, 1, 0])),
+        ("remains-of-equal-uid-and-label", beside([UPDATE, 5, 1, 0])),
+        ("remains-with-key-0", with_mark(image_with(2, 2, 9, &[(ALLOC, 5, 1, 3), (0, 0, 0, 0)]), 1, [ALLOC, 5, 2, 0])),
+        ("remains-with-an-equal-key", with_mark(image_with(2, 2, 9, &[(1, 5, 1, 3), (1, 5, 2, 3)]), 1, [1, 5, 0, 1])),
+        ("remains-after-stale-marks-and-a-delete", with_mark(in_two_passes, 5, [DELETE, 6, 0, JOBS])),
+        ("remains-everywhere", with_mark(beside([0, 5, 2, JOBS]), 0, [ALLOC, 5, 1, 0])),
     ]
 }
 
@@ -162,21 +197,19 @@ fn refused_3() -> Vec<(&'static str, Vec<u32>)> {
     let of_two = |first: Filled, second: Filled| image_with(3, 3, 9, &[first, second]);
     vec![
         ("kind-4", mark((4, 5, 2, 7))),
-        ("free-with-label", mark((0, 5, 0, 7))),
-        ("free-with-uid", mark((0, 0, 2, 7))),
-        ("label-0", mark((ALLOC, 0, 2, 7))),
+        ("kind-all-ones", mark((u32::MAX, 5, 2, 7))),
         ("label-1", mark((UPDATE, 1, 2, 7))),
         ("label-above-clock", mark((DELETE, 10, 2, 7))),
-        ("uid-0", mark((ALLOC, 5, 0, 7))),
         ("uid-past-its-end", mark((DELETE, 5, LARGEST + 1, 7))),
-        ("board-0", on_board(mark((ALLOC, 5, 2, 7)), 2, 0)),
         ("board-3", on_board(mark((UPDATE, 5, 2, 7)), 2, 3)),
         ("board-all-ones", on_board(mark((DELETE, 5, 2, 7)), 2, u32::MAX)),
-        ("free-with-board", on_board(mark((0, 0, 0, 7)), 2, JOBS)),
+        ("kind-4-and-nothing-else", of_two((ALLOC, 5, 1, 3), (4, 5, 2, 7))),
+        ("label-1-and-nothing-else", of_two((ALLOC, 5, 1, 3), (ALLOC, 1, 2, 7))),
+        ("label-above-clock-and-nothing-else", of_two((ALLOC, 5, 1, 3), (ALLOC, 10, 2, 7))),
+        ("uid-past-its-end-and-nothing-else", of_two((ALLOC, 5, 1, 3), (ALLOC, 5, LARGEST + 1, 7))),
         ("board-3-and-nothing-else", on_board(of_two((ALLOC, 5, 1, 3), (ALLOC, 5, 2, 7)), 1, 3)),
         ("board-3-not-kept", on_board(of_two((ALLOC, 5, 1, 3), (ALLOC, 9, 2, 7)), 1, 3)),
-        ("free-with-board-and-nothing-else", on_board(of_two((ALLOC, 5, 1, 3), (0, 0, 0, 7)), 1, JOBS)),
-        ("free-with-the-queues-board", on_board(of_two((ALLOC, 5, 1, 3), (0, 0, 0, 7)), 1, QUEUE)),
+        ("board-3-beside-remains", on_board(with_mark(mark((ALLOC, 5, 2, 7)), 0, [4, 5, 1, 0]), 2, 3)),
         ("equal-keys-on-no-board", on_board(of_two((ALLOC, 5, 1, 3), (UPDATE, 6, 2, 3)), 1, 3)),
         ("equal-uids-on-no-board", on_board(of_two((ALLOC, 5, 1, 3), (UPDATE, 6, 1, 3)), 1, 3)),
         ("equal-uid-and-label-on-no-board", on_board(of_two((ALLOC, 5, 1, 3), (UPDATE, 5, 1, 4)), 1, 3)),
@@ -194,11 +227,13 @@ fn refused_3() -> Vec<(&'static str, Vec<u32>)> {
 
 fn refused_4() -> Vec<(&'static str, Vec<u32>)> {
     let equal_uid_and_label = image_with(3, 2, 9, &[(ALLOC, 5, 1, 3), (UPDATE, 5, 1, 4)]);
+    let equal_beside_another = image_with(3, 2, 9, &[(ALLOC, 5, 1, 3), (DELETE, 7, 1, 3), (UPDATE, 5, 1, 3)]);
     vec![
         ("equal-uid-and-label-on-two-boards", queued(equal_uid_and_label.clone(), &[1])),
         ("equal-uid-and-label-on-the-queue", queued(equal_uid_and_label, &[0, 1])),
         ("equal-order-numbers", queued(image_with(3, 2, 9, &[(ALLOC, 5, 1, 3), (UPDATE, 6, 2, 3)]), &[0, 1])),
         ("equal-uid-and-label", image_with(3, 2, 9, &[(ALLOC, 5, 1, 3), (UPDATE, 5, 1, 4)])),
+        ("equal-beside-remains", with_mark(equal_beside_another, 1, [DELETE, 7, 1, 0])),
         ("equal-uid-and-label-of-deletes", image_with(3, 2, 9, &[(DELETE, 5, 1, 3), (DELETE, 5, 1, 4)])),
         ("equal-and-beaten", image_with(3, 2, 9, &[(ALLOC, 5, 1, 3), (UPDATE, 5, 1, 3), (UPDATE, 7, 1, 3)])),
         ("equal-keys", image_with(2, 2, 9, &[(ALLOC, 5, 1, 3), (UPDATE, 6, 2, 3)])),

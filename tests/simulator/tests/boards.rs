@@ -2,16 +2,14 @@
 
 use simulator::boards::as_jobs;
 use simulator::damage::any_image;
-use simulator::image::{Name, Sizes, CLOCK, JOBS, LARGEST, QUEUE};
+use simulator::image::{Header, Name, Sizes, CLOCK, JOBS, LARGEST, QUEUE};
 use simulator::random::Random;
 use simulator::recovery::{judge, Accepted};
 
 /// How many marks or images there were of each sort.
 #[derive(Default, Debug)]
 struct Seen {
-    filled_on_0: u32,
     filled_on_another: u32,
-    free_with_a_board: u32,
     uid_on_two_boards: u32,
     key_on_two_boards: u32,
     only_boards_wrong: u32,
@@ -30,14 +28,8 @@ impl Seen {
             Err(refusal) => self.refusals[refusal as usize] += 1,
         }
         let Some(sizes) = Sizes::of(image) else { return };
-        for header in sizes.headers(image) {
-            match (header.is_filled(), header.board) {
-                (true, JOBS | QUEUE) | (false, 0) => {}
-                (true, 0) => self.filled_on_0 += 1,
-                (true, _) => self.filled_on_another += 1,
-                (false, _) => self.free_with_a_board += u32::from(header.kind == 0),
-            }
-        }
+        let is_on_another = |header: &Header| header.is_filled() && ![JOBS, QUEUE].contains(&header.board);
+        self.filled_on_another += sizes.headers(image).iter().filter(|header| is_on_another(header)).count() as u32;
         self.note_kept(sizes, image);
         let refused_with_3 = judge(image).err() == Some(3);
         self.only_boards_wrong += u32::from(refused_with_3 && judge(&as_jobs(image)).is_ok());
@@ -93,7 +85,7 @@ fn no_sort_of_board_is_rare_in_random_images() {
         seen.note(&any_image(&mut random, sizes));
     }
     println!("seed 11, 20000 images, {seen:?}");
-    let marks = [seen.filled_on_0, seen.filled_on_another, seen.free_with_a_board, seen.surviving_entries];
+    let marks = [seen.filled_on_another, seen.surviving_entries];
     let wrong = [seen.uid_on_two_boards, seen.key_on_two_boards, seen.only_boards_wrong, seen.only_order_numbers_wrong];
     let right = [seen.last_order_numbers, seen.accepted_with_key_on_two_boards];
     assert!(marks.iter().chain(&wrong).chain(&right).all(|&times| times >= 200), "{seen:?}");

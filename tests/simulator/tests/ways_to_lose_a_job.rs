@@ -3,8 +3,8 @@
 mod common;
 
 use common::{delete, fresh, make, mark, new, tick, BEGIN, END};
-use simulator::calls::{simulate, Call, DONE, WENT_ON};
-use simulator::image::{ALLOC, DELETE, JOBS, UPDATE};
+use simulator::calls::{line_written_back, simulate, Call, DONE, WENT_ON};
+use simulator::image::{Sizes, ALLOC, DELETE, JOBS, UPDATE};
 use simulator::recovery::{judge, surviving_entries, Entries};
 use simulator::store::Store;
 use simulator::stored::image_with;
@@ -36,9 +36,10 @@ fn a_delete_outlasts_the_record_it_covers() {
 #[test]
 fn a_stray_copy_of_a_slot_freed_at_once_does_not_return() {
     let mut store = fresh(3, 1);
-    let stray = [Call::WriteBack { slot: 0, line: 0 }, Call::WriteBack { slot: 0, line: 1 }];
     make(&mut store, &[BEGIN, new(0, 1)]);
-    make(&mut store, &stray);
+    let sizes = Sizes::of(&store.working).unwrap();
+    make(&mut store, &line_written_back(sizes.contents_line(0)));
+    make(&mut store, &line_written_back(sizes.header_line(0)));
     make(&mut store, &[delete(0, 1), END]);
     assert_eq!(mark(&store.persistent, 0), [ALLOC, 2, 1, JOBS]);
     assert_eq!(simulate(&mut store, &Call::Sync), 4);

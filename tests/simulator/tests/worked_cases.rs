@@ -3,9 +3,10 @@
 mod common;
 
 use common::{delete, fresh, make, mark, new, tick, BEGIN, END};
-use simulator::calls::{image_words, refusal_of, refused, simulate, transient_words, Call, DONE, WENT_ON};
+use simulator::calls::{image_words, line_written_back, refusal_of, refused, simulate, transient_words};
+use simulator::calls::{Call, DONE, WENT_ON};
 use simulator::headcount::{figures, head_count};
-use simulator::image::{Header, ALLOC, DELETE, HEADER_WORDS, JOBS, PREFIX, QUEUE, UPDATE};
+use simulator::image::{Header, Sizes, ALLOC, DELETE, HEADER_WORDS, JOBS, PREFIX, QUEUE, UPDATE};
 use simulator::lister::{bytes_of, clock_answer, listing, survivors_answer};
 use simulator::recovery::judge;
 use simulator::store::Store;
@@ -111,7 +112,7 @@ fn declines_with_1(before: &Store) {
         Call::LookRefusal { thread: 0 },
         Call::Advance,
         Call::Sync,
-        Call::WriteBack { slot: 0, line: 0 },
+        Call::WriteBack { position: 3 },
     ];
     for call in calls {
         let mut after = before.clone();
@@ -169,7 +170,7 @@ fn each_stored_image_is_refused_as_its_name_says() {
         .collect();
     let count = |line: &str| first_words.iter().filter(|(_, first)| first == line).count();
     let counts = ["refused 1", "refused 2", "refused 3", "refused 4"].map(count);
-    assert_eq!((counts, first_words.len()), ([19, 4, 25, 8], 76), "{first_words:#?}");
+    assert_eq!((counts, first_words.len()), ([19, 4, 23, 9], 97), "{first_words:#?}");
 }
 
 #[test]
@@ -192,7 +193,7 @@ fn a_figure_is_no_rest_of_the_others() {
     let torn = Header { kind: 0, epoch: 5, uid: 0, board: 0 };
     let too_high = Header { kind: 4, epoch: 5, uid: 1, board: JOBS };
     let board_alone = Header { board: JOBS, ..Header::FREE };
-    assert_eq!(figures(&[torn, too_high, board_alone, Header::FREE], 9, &[]), [1, 0, 0, 0]);
+    assert_eq!(figures(&[torn, too_high, board_alone, Header::FREE], 9, &[]), [3, 0, 0, 0]);
 }
 
 /// Moves a slot of working to another board, as only damage does.
@@ -200,7 +201,7 @@ fn stray(store: &mut Store, slot: usize, board: u32) {
     store.working = on_board(store.working.clone(), slot, board);
 }
 
-const OTHER_BOARDS: [u32; 4] = [0, QUEUE, 3, u32::MAX];
+const OTHER_BOARDS: [u32; 3] = [QUEUE, 3, u32::MAX];
 
 fn set(thread: u32, key: u32) -> Call {
     Call::Set { thread, key, value: vec![key + 1] }
@@ -265,7 +266,9 @@ fn a_slot_on_another_board_is_taken_up_written_back_and_reclaimed() {
         make(&mut store, &[BEGIN, new(0, 8), new(0, 9)]);
         stray(&mut store, 0, board);
         assert_eq!(simulate(&mut store, &new(0, 8)), 13, "board {board}");
-        make(&mut store, &[END, Call::WriteBack { slot: 0, line: 1 }]);
+        make(&mut store, &[END]);
+        let sizes = Sizes::of(&store.working).unwrap();
+        make(&mut store, &line_written_back(sizes.header_line(0)));
         assert_eq!(mark(&store.persistent, 0), [ALLOC, 2, 1, board], "all four words are written back");
         tick(&mut store);
         make(&mut store, &[BEGIN, delete(0, 9), END]);
@@ -304,11 +307,10 @@ fn recovery_declines_another_board_with_3_where_all_else_is_in_order() {
     let jobs = image_with(3, 2, 9, &[(ALLOC, 5, 1, 3), (DELETE, 8, 2, 4)]);
     assert_eq!(judge(&jobs).unwrap().survivors, [0]);
     let refusal = |slot, board| judge(&on_board(jobs.clone(), slot, board)).err();
-    assert_eq!(
-        [0, 1, 2].map(|slot| [0, 3, u32::MAX].map(|board| refusal(slot, board))),
-        [[Some(3); 3], [Some(3); 3], [None, Some(3), Some(3)],]
-    );
-    for board in [JOBS, QUEUE] {
-        assert_eq!([0, 1, 2].map(|slot| refusal(slot, board)), [None, None, Some(3)], "board {board}");
+    for board in [3, u32::MAX] {
+        assert_eq!([0, 1, 2].map(|slot| refusal(slot, board)), [Some(3), Some(3), None], "board {board}");
+    }
+    for board in [0, JOBS, QUEUE] {
+        assert_eq!([0, 1, 2].map(|slot| refusal(slot, board)), [None; 3], "board {board}");
     }
 }

@@ -1,4 +1,5 @@
-//! Every call and the lengths, on honest, damaged and wild stores; some of the damaged have slots on other boards.
+//! Every call and the lengths, on honest, damaged and wild stores; some of the damaged have slots on other boards, some
+//! have marks of which only some words are left.
 //! Usage: calls SEED COUNT
 
 use differential::library::{any, compare, lengths};
@@ -11,6 +12,7 @@ use simulator::generator::{any_call, start, unformatted, Mix};
 use simulator::image::Sizes;
 use simulator::queue_cases::QueueCases;
 use simulator::random::Random;
+use simulator::remains::{CallsOnRemains, RecoveriesOfRemains};
 use simulator::store::Store;
 
 /// Upper ends for the number of slots, most of them small.
@@ -23,15 +25,18 @@ struct Test {
     refusals: Refusals,
     told_apart: ToldApart,
     queue_cases: QueueCases,
+    on_remains: CallsOnRemains,
+    of_remains: RecoveriesOfRemains,
     smallest: Smallest,
 }
 
 fn main() {
     let [seed, count] = numbers("calls SEED COUNT");
     let random = Random::new(seed);
-    let (told_apart, queue_cases, smallest) = Default::default();
-    let refusals = Refusals::default();
-    let mut test = Test { random, calls: 0, accepted: 0, refusals, told_apart, queue_cases, smallest };
+    let (refusals, told_apart, queue_cases, on_remains, of_remains, smallest) = Default::default();
+    let (calls, accepted) = (0, 0);
+    let mut test =
+        Test { random, calls, accepted, refusals, told_apart, queue_cases, on_remains, of_remains, smallest };
     while test.calls < count {
         let most = test.random.pick(&MOST_SLOTS);
         let slots = test.random.between(2, most);
@@ -42,16 +47,19 @@ fn main() {
         let wild = wild_store(&mut test.random, slots);
         test.changes(wild, 12);
     }
-    let Test { calls, accepted, refusals, told_apart, queue_cases, smallest, .. } = test;
+    let Test { calls, accepted, refusals, told_apart, queue_cases, on_remains, of_remains, smallest, .. } = test;
     smallest.report(seed);
     let ToldApart { no_9, no_11, found_none } = told_apart;
     println!(
         "{calls} calls, no difference, {accepted} accepted, refusals by number {refusals:?}, slots told from jobs by \
-         their board: no 9 {no_9}, no 11 {no_11}, none found {found_none}, {queue_cases}, seed {seed}"
+         their board: no 9 {no_9}, no 11 {no_11}, none found {found_none}, {queue_cases}, {on_remains}, {of_remains}, \
+         seed {seed}"
     );
     assert!(refusals[1..].iter().all(|&seen| seen >= 100), "too few of some refusal");
     assert!(told_apart.are_at_least(100), "too few slots that only their board tells from a job");
     assert!(queue_cases.are_at_least(100), "too few of some sort of queue calls");
+    assert!(on_remains.are_at_least(100), "too few calls that met remains in some way");
+    assert!(of_remains.are_at_least(100), "too few recoveries that met remains in some way");
 }
 
 impl Test {
@@ -62,6 +70,10 @@ impl Test {
         match compare(store, call, any) {
             Ok(reply) => {
                 self.queue_cases.note(&before, call, reply);
+                self.on_remains.note(&before, call, reply, store);
+                if *call == Call::Recover {
+                    self.of_remains.note(&before.persistent, &store.persistent);
+                }
                 match refusal_of(call, reply) {
                     0 => self.accepted += 1,
                     refusal => self.refusals[refusal as usize] += 1,

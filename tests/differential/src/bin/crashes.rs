@@ -1,5 +1,6 @@
-//! Runs of all calls with a crash after every lasting store, also within a sync and after the lines that the memory
-//! writes back there, each recovery held against the reference map; and the same calls on damaged and wild stores.
+//! Runs of all calls with a crash after every lasting store and within it, also in a sync and after the words that the
+//! memory writes back there, each recovery held against the reference map, with cuts within its own stores; and the same
+//! calls on damaged and wild stores.
 //! Usage: crashes SEED RUNS
 
 use differential::library::{any, compare};
@@ -10,7 +11,7 @@ use simulator::generator::{any_call, trace, Mix};
 use simulator::image::{Sizes, CLOCK, LARGEST};
 use simulator::random::Random;
 use simulator::store::Store;
-use simulator::trace::{replay, shrink, Counts, Trace, WithinSyncs};
+use simulator::trace::{replay, shrink, Counts, Torn, Trace, WithinSyncs};
 
 const CALLS_OF_A_RUN: usize = 300;
 
@@ -32,14 +33,16 @@ fn main() {
             panic!("run {run} of seed {seed}: {what}");
         }
     }
-    let Counts { calls, crashes, went_on, refusals, queue_cases, within_syncs } = &counts;
+    let Counts { calls, crashes, went_on, torn, refusals, queue_cases, within_syncs } = &counts;
     println!(
-        "{runs} runs, {calls} calls, {crashes} cuts, no difference, recover went on {went_on}, {within_syncs}, starts \
-         near 2 {starts_low} and near {LARGEST} {starts_high}, refusals by number {refusals:?}, {queue_cases}, \
+        "{runs} runs, {calls} calls, {crashes} cuts, {torn}, no difference, recover went on {went_on}, {within_syncs}, \
+         starts near 2 {starts_low} and near {LARGEST} {starts_high}, refusals by number {refusals:?}, {queue_cases}, \
          seed {seed}"
     );
     assert!(refusals[1..].iter().all(|&seen| seen >= 100), "too few of some refusal");
-    let least = WithinSyncs { syncs: 2 * runs, underway: runs / 2, lines: 20 * runs, changing: 4 * runs };
+    let least = Torn { headers: 100 * runs, contents: 40 * runs, recovers: 100 * runs, remains: 100 * runs };
+    assert!(torn.are_at_least(least), "too few cuts within a store");
+    let least = WithinSyncs { syncs: 2 * runs, underway: runs / 2, words: 20 * runs, changing: 4 * runs };
     assert!(within_syncs.are_at_least(least), "too little written back within syncs");
     assert!(queue_cases.of_runs_are_at_least(100), "too few of some sort of queue calls");
     assert!(starts_low >= 100 && starts_high >= 100, "too few starts near some end of the clock");

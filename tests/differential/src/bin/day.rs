@@ -1,6 +1,6 @@
 //! A day of a busy board: 1,024 slots of 9 words and 16 threads, ten calls for each of 86,400 seconds, every one compared
 //! with the simulator, and a crash now and then whose recovery is held against the reference map.
-//! Started by hand: day SEED SECONDS STORES, with a crash after one of so many lasting stores.
+//! Started by hand: day SEED SECONDS STORES, with crashes at one of so many lasting stores, within it and after it.
 
 use differential::library::{any, compare};
 use differential::numbers;
@@ -28,11 +28,11 @@ fn main() {
     if let Err(what) = replay_with_some_crashes(&trace, &mut compared, &mut counts, stores) {
         panic!("seed {seed}: {what}");
     }
-    let Counts { calls, crashes, went_on, refusals, queue_cases, within_syncs } = &counts;
+    let Counts { calls, crashes, went_on, torn, refusals, queue_cases, within_syncs } = &counts;
     let (first, last) = (trace.start.working[2], store.working[2]);
     println!(
-        "{calls} calls on {SLOTS} slots and {THREADS} threads, clock {first} to {last}, {crashes} cuts, no difference, \
-         recover went on {went_on}, {within_syncs}, refusals by number {refusals:?}, {queue_cases}, seed {seed}"
+        "{calls} calls on {SLOTS} slots and {THREADS} threads, clock {first} to {last}, {crashes} cuts, {torn}, no \
+         difference, recover went on {went_on}, {within_syncs}, refusals by number {refusals:?}, {queue_cases}, seed {seed}"
     );
 }
 

@@ -10,6 +10,7 @@ use simulator::image::{Sizes, QUEUE};
 use simulator::lister::{bytes_of, clock_answer, survivors_answer};
 use simulator::random::Random;
 use simulator::recovery::surviving_entries;
+use simulator::remains::RecoveriesOfRemains;
 use simulator::store::Store;
 
 #[derive(Default)]
@@ -18,6 +19,7 @@ struct Counts {
     went_on: u64,
     entries: u64,
     refusals: [u64; 5],
+    of_remains: RecoveriesOfRemains,
 }
 
 fn main() {
@@ -39,14 +41,15 @@ fn main() {
         }
     }
     smallest.report(seed);
-    let Counts { calls, went_on, entries, refusals } = &counts;
+    let Counts { calls, went_on, entries, refusals, of_remains } = &counts;
     println!(
         "{count} images, {calls} calls, went on {went_on}, {entries} queue entries survive, done and refused 1 to 4 \
-         {refusals:?}, seed {seed}"
+         {refusals:?}, {of_remains}, seed {seed}"
     );
     let seen = counts.refusals[1..].iter().all(|&seen| seen >= 100) && counts.went_on >= count;
     assert!(seen, "too few of some reply");
     assert!(*entries >= count / 10, "too few queue entries, which the server does not count");
+    assert!(of_remains.are_at_least(count / 200), "too few recoveries that met remains in some way");
 }
 
 fn any_store(random: &mut Random, slots: u32) -> Store {
@@ -81,8 +84,10 @@ fn questions(store: &Store, counts: &mut Counts) -> Result<(), String> {
 /// Recover calls up to the one that does not go on, other junk in working and notes before each.
 fn recovery(mut store: Store, random: &mut Random, counts: &mut Counts) -> Result<(), String> {
     loop {
+        let before = store.persistent.clone();
         let reply = compare(&mut store, &Call::Recover, recover)?;
         counts.calls += 1;
+        counts.of_remains.note(&before, &store.persistent);
         if reply != WENT_ON {
             counts.refusals[refusal_of(&Call::Recover, reply) as usize] += 1;
             return Ok(());

@@ -13,8 +13,9 @@ use simulator::damage::{acceptable_image, any_image, damage_length};
 use simulator::image::{Sizes, LARGEST};
 use simulator::lister::{bytes_of, clock_answer, survivors_answer};
 use simulator::random::Random;
+use simulator::remains::RecoveriesOfRemains;
 use simulator::store::Store;
-use simulator::stored::{image_with, queued, stored_images, EXAMPLE};
+use simulator::stored::{image_with, queued, stored_images, with_mark, EXAMPLE};
 
 const QUESTION: u32 = 1;
 const RECOVERY: u32 = 2;
@@ -25,6 +26,7 @@ struct Cases {
     number: u32,
     refusals: [u32; 5],
     went_on: u32,
+    of_remains: RecoveriesOfRemains,
 }
 
 fn main() -> std::io::Result<()> {
@@ -39,6 +41,7 @@ fn main() -> std::io::Result<()> {
     cases.random(&mut Random::new(seed), count);
     let seen = cases.refusals[1..].iter().all(|&seen| seen >= 100) && cases.went_on >= 100;
     assert!(seen, "too few of some kind: refusals {:?}, went on {}", cases.refusals, cases.went_on);
+    assert!(cases.of_remains.are_at_least(20), "too few of some kind: {}", cases.of_remains);
     let head = [seed as u32, (seed >> 32) as u32, cases.number];
     std::fs::write(file, bytes_of(&[&head[..], &cases.words].concat()))?;
     println!("{} cases, seed {seed}", cases.number);
@@ -78,6 +81,7 @@ impl Cases {
             let before = store.clone();
             let reply = simulate(&mut store, &Call::Recover);
             self.refusals[refusal_of(&Call::Recover, reply) as usize] += 1;
+            self.of_remains.note(&before.persistent, &store.persistent);
             self.wide(reply);
             self.words.extend(&store.persistent);
             if before.working == store.working && before.transient == store.transient {
@@ -166,7 +170,7 @@ impl Cases {
     }
 }
 
-/// Small images that recovery accepts: of various sizes, kinds, labels, clocks and boards.
+/// Small images that recovery accepts: of various sizes, kinds, labels, clocks and boards, some with remains.
 fn small_images() -> Vec<Vec<u32>> {
     let latest = LARGEST - 2;
     vec![
@@ -180,5 +184,7 @@ fn small_images() -> Vec<Vec<u32>> {
         image_with(4, 2, 7, &[(3, 4, 9, 1), (3, 5, 9, 1), (1, 3, 9, 1), (1, 7, 8, 2)]),
         queued(image_with(3, 2, 8, &[(1, 4, 2, 3), (1, 5, 3, 3), (1, 6, 4, 4)]), &[1, 2]),
         queued(image_with(3, 3, 8, &[(1, 4, 2, LARGEST), (3, 6, 3, 2), (1, 3, 3, 2)]), &[0, 1, 2]),
+        with_mark(image_with(3, 2, 8, &[(1, 4, 2, 3), (3, 7, 2, 3)]), 2, [2, 6, 2, 0]),
+        with_mark(with_mark(image_with(3, 2, 8, &[(1, 4, 2, 3)]), 1, [0, 0, 0, 1]), 2, [0, 5, 0, 2]),
     ]
 }

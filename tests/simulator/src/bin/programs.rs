@@ -4,17 +4,19 @@
 use simulator::damage::{any_image, damage_length};
 use simulator::headcount::head_count;
 use simulator::image::Sizes;
-use simulator::lister::{bytes_of, listing};
+use simulator::lister::{accepted_image, bytes_of, listing};
 use simulator::random::Random;
 use std::io::Write;
 use std::path::{Path, PathBuf};
 use std::process::{Command, Stdio};
 
-/// How often each refusal came up, how many slots were in each class, and how many lines ended in `queue` or not.
+/// How often each refusal came up, how many slots were in each class, how many of the free ones had remains, and how many
+/// lines ended in `queue` or not.
 #[derive(Default)]
 struct Seen {
     refusals: [usize; 5],
     classes: [usize; 4],
+    remains: usize,
     entries: usize,
     jobs: usize,
 }
@@ -31,14 +33,25 @@ fn main() {
         let bytes = any_bytes(&mut random);
         let (counted, listed) = (head_count(&bytes), listing(&bytes));
         seen.note(&counted, &listed);
+        seen.remains += remains_counted(&bytes);
         compare(&directory.join("headcount"), &bytes, &counted, number);
         compare(&directory.join("lister"), &bytes, &listed, number);
     }
     let rare = seen.refusals[1..].iter().any(|&times| times < 50) || seen.classes.iter().any(|&slots| slots < 500);
     assert!(!rare, "too few of some kind: refusals {:?}, slots by class {:?}", &seen.refusals[1..], seen.classes);
-    let Seen { classes, jobs, entries, .. } = seen;
+    let Seen { classes, remains, jobs, entries, .. } = seen;
+    assert!(remains >= 500, "too few free slots with remains: {remains}");
     assert!(jobs >= 500 && entries >= 500, "too few of some board: {jobs} jobs, {entries} queue entries");
-    println!("{count} images, seed {seed}, slots by class {classes:?}, {jobs} jobs, {entries} queue entries");
+    println!(
+        "{count} images, seed {seed}, slots by class {classes:?}, {remains} of the free ones with remains, {jobs} jobs, \
+         {entries} queue entries"
+    );
+}
+
+/// The slots with remains in an image that the head count accepts.
+fn remains_counted(bytes: &[u8]) -> usize {
+    let Ok((image, accepted)) = accepted_image(bytes) else { return 0 };
+    accepted.sizes.headers(&image).into_iter().filter(|header| header.is_remains()).count()
 }
 
 /// The bytes of an image, now and then of a wrong length.

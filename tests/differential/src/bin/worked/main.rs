@@ -1,10 +1,12 @@
-//! The cases that 01 works out, what the board word changes (02, No. 2), and the queue (02, No. 3), on the library.
+//! The cases that 01 works out, what the board word changes (02, No. 2), the queue (02, No. 3), and memory that stores word
+//! by word (02, No. 4), on the library.
 //! Usage: worked
 
 mod queue;
+mod remains;
 
 use differential::library::{answers, any, compare, lengths};
-use simulator::calls::{refused, Call, DONE, TICKED, WENT_ON};
+use simulator::calls::{line_written_back, refused, Call, DONE, TICKED, WENT_ON};
 use simulator::image::{ALLOC, DELETE, HEADER_WORDS, JOBS, PREFIX, QUEUE, UPDATE};
 use simulator::lister::bytes_of;
 use simulator::store::Store;
@@ -29,7 +31,7 @@ fn main() {
         a_slot_on_another_board,
         recoveries_of_other_boards,
     ];
-    let cases: Vec<fn() -> usize> = cases.into_iter().chain(queue::CASES).collect();
+    let cases: Vec<fn() -> usize> = cases.into_iter().chain(queue::CASES).chain(remains::CASES).collect();
     let calls: usize = cases.iter().map(|case| case()).sum();
     println!("{} cases, {calls} calls", cases.len());
 }
@@ -89,7 +91,7 @@ fn each_declines_with_1(store: &mut Store, value: &[u32]) -> usize {
         (Call::LookRefusal { thread: 0 }, 1),
         (Call::Advance, refused(1)),
         (Call::Sync, refused(1)),
-        (Call::WriteBack { slot: 0, line: 0 }, 1),
+        (Call::WriteBack { position: 0 }, 1),
     ];
     let made = make(store, &calls);
     assert_eq!(*store, before, "a refusal changes nothing");
@@ -145,7 +147,7 @@ fn lines_of_a_quiet_sync() -> usize {
     make(&mut store, &[(Call::Format { slots: 8, words: 3 }, 0), (Call::Sync, 2), (Call::Sync, 2)])
 }
 
-const OTHER_BOARDS: [u32; 4] = [0, QUEUE, 3, u32::MAX];
+const OTHER_BOARDS: [u32; 3] = [QUEUE, 3, u32::MAX];
 
 /// "A new version and a DELETE carry their payload's board", and "A free mark is now four zeros".
 fn marks_that_job_calls_leave() -> usize {
@@ -209,7 +211,7 @@ fn a_slot_on_another_board() -> usize {
         let two = [(Call::Format { slots: 3, words: 2 }, 0), (BEGIN, 0), (new(8, &[5]), 0), (new(9, &[5]), 0)];
         calls += make(&mut store, &two);
         stray(&mut store, 0, board);
-        calls += make(&mut store, &[(new(8, &[6]), 13), (END, 0), (Call::WriteBack { slot: 0, line: 1 }, 0)]);
+        calls += make(&mut store, &[(new(8, &[6]), 13), (END, 0)]) + mark_written_back(&mut store, 0);
         assert_eq!(mark(&store.persistent, 0), [ALLOC, 2, 1, board]);
         calls += make(&mut store, &[(Call::Advance, TICKED), (BEGIN, 0), (delete(9), 0), (END, 0)]);
         stray(&mut store, 1, board);
@@ -226,8 +228,8 @@ fn a_slot_on_another_board() -> usize {
     calls
 }
 
-/// 02, No. 3: "condition 3 admits boards 1 and 2": of each mark of an image that is in order else, a free one too. The
-/// first of them survives, and the server counts it where it is a job.
+/// 02, No. 3: "condition 3 admits boards 1 and 2": of each mark of an image that is in order else. The first of them
+/// survives, and the server counts it where it is a job. A free one may have any board, and so may one with board 0.
 fn recoveries_of_other_boards() -> usize {
     let in_order = [3, 2, 9, ALLOC, 5, 1, JOBS, UPDATE, 8, 2, JOBS, 0, 0, 0, 0, 3, 30, 4, 40, 5, 50];
     let mut calls = 0;
@@ -236,7 +238,7 @@ fn recoveries_of_other_boards() -> usize {
             let mut store = sized(3, 2, 1);
             store.persistent = in_order.to_vec();
             let is_free = mark(&store.persistent, slot) == [0; HEADER_WORDS];
-            let is_in_order = if is_free { board == 0 } else { [JOBS, QUEUE].contains(&board) };
+            let is_in_order = is_free || [0, JOBS, QUEUE].contains(&board);
             set_board(&mut store.persistent, slot, board);
             let jobs = u64::from(mark(&store.persistent, 0)[BOARD] == JOBS);
             let wanted = if is_in_order { [9, jobs] } else { [refused(3); 2] };
@@ -255,6 +257,13 @@ fn value_place(slots: usize, words: usize, slot: usize) -> u64 {
 fn mark(image: &[u32], slot: usize) -> [u32; HEADER_WORDS] {
     let start = PREFIX + HEADER_WORDS * slot;
     image[start..start + HEADER_WORDS].try_into().expect("a mark has its words")
+}
+
+/// The memory copies a mark by itself, word by word.
+fn mark_written_back(store: &mut Store, slot: usize) -> usize {
+    let start = PREFIX + HEADER_WORDS * slot;
+    let words = line_written_back(start..start + HEADER_WORDS);
+    make(store, &words.into_iter().map(|word| (word, 0)).collect::<Vec<_>>())
 }
 
 /// Moves a slot of working to another board, which only damage does.
