@@ -8,7 +8,7 @@
 SHELL := /bin/bash
 .SHELLFLAGS := -o pipefail -c
 
-VERSION := 0.3.0
+VERSION := 0.4.0
 PREFIX ?= /usr/local
 DESTDIR ?=
 CC = gcc

@@ -15,6 +15,7 @@
 #include <valgrind/callgrind.h>
 
 enum { WORDS = 4, VALUE_WORDS = WORDS - 1, THREADS = 4, MOST_COPIES = 64, MOST_ROUNDS = 400 };
+enum { FIRST_WORD = 3 }; /* of an image: the first of a header */
 
 static const struct calls sides[] = {CALLS(board), CALLS(byhand)};
 static const char *const side_names[] = {"library", "C"};
@@ -172,9 +173,8 @@ static void full_cut(struct bed *b)
     begin(b);
     for (uint32_t key = 1; key <= young_ones; key++)
         accepted(board_set(BED(b), 0, key, other_value, VALUE_WORDS));
-    for (uint32_t slot = 0; slot < b->slots; slot++)
-        for (uint32_t line = 0; line < 2; line++)
-            accepted(board_write_back(BED(b), slot, line));
+    for (size_t position = FIRST_WORD; position < b->image; position++)
+        accepted(board_write_back(BED(b), position));
 }
 
 /* ---- What is measured. A reply is a number that both sides must agree in ---- */

@@ -32,8 +32,11 @@ struct board {
     uint32_t *open, *retired, *waiting; /* of the notes; waiting: of even epochs, then of odd ones */
 };
 
-static bool filled(uint32_t kind) { return kind - 1 < DELETE; }
-static bool payload(uint32_t kind) { return kind - 1 < UPDATE; }
+/* A header with any word 0 counts as free, and so does one of a kind above 3. The kind, which decides most often, is
+   asked first. */
+static bool rest_whole(const uint32_t *header) { return header[EPOCH] != 0 && header[UID] != 0 && header[BOARD] != 0; }
+static bool filled(const uint32_t *header) { return header[KIND] - 1 < DELETE && rest_whole(header); }
+static bool payload(const uint32_t *header) { return header[KIND] - 1 < UPDATE && rest_whole(header); }
 static size_t image_words(size_t slots, size_t words) { return PREFIX + (HEADER_WORDS + words) * slots; }
 static size_t contents_at(size_t slots) { return PREFIX + HEADER_WORDS * slots; }
 
@@ -146,7 +149,7 @@ static uint32_t look_up(const struct board *b, uint32_t key, uint32_t epoch, siz
     *live = NONE;
     for (size_t s = 0; s < b->slots; s++) {
         const uint32_t *header = b->headers + HEADER_WORDS * s;
-        if (b->contents[b->words * s] != key || header[BOARD] != JOBS || !filled(header[KIND]))
+        if (b->contents[b->words * s] != key || header[BOARD] != JOBS || !filled(header))
             continue;
         if (header[EPOCH] > epoch)
             return BOARD_NEWER;
@@ -161,7 +164,7 @@ static size_t find_live(const struct board *b, uint32_t key)
 {
     for (size_t s = 0; s < b->slots; s++) {
         const uint32_t *header = b->headers + HEADER_WORDS * s;
-        if (b->contents[b->words * s] == key && header[BOARD] == JOBS && payload(header[KIND]) && b->retired[s] == 0)
+        if (b->contents[b->words * s] == key && header[BOARD] == JOBS && payload(header) && b->retired[s] == 0)
             return s;
     }
     return NONE;
@@ -201,7 +204,7 @@ static size_t room(const struct board *b, size_t needed)
     size_t first = NONE, s = b->notes[LAST_TAKEN];
     for (size_t k = 0; k < b->slots; k++) {
         s = s + 1 < b->slots ? s + 1 : 0;
-        if (filled(b->headers[HEADER_WORDS * s]))
+        if (filled(b->headers + HEADER_WORDS * s))
             continue;
         if (first == NONE)
             first = s;
@@ -326,7 +329,7 @@ uint64_t BYHAND(read)(READ_STORE, uint32_t thread, uint32_t key)
 static bool queue_newer(const struct board *b, uint32_t epoch)
 {
     for (const uint32_t *header = b->headers; header < b->headers + HEADER_WORDS * b->slots; header += HEADER_WORDS)
-        if (header[BOARD] == QUEUE && header[EPOCH] > epoch && filled(header[KIND]))
+        if (header[BOARD] == QUEUE && header[EPOCH] > epoch && filled(header))
             return true;
     return false;
 }
@@ -339,10 +342,10 @@ static uint32_t find_front(const struct board *b, uint32_t epoch, size_t *front)
         const uint32_t *header = b->headers + HEADER_WORDS * s;
         if (header[BOARD] != QUEUE)
             continue;
-        if (header[EPOCH] > epoch && filled(header[KIND]))
+        if (header[EPOCH] > epoch && filled(header))
             return BOARD_NEWER;
         uint32_t order = b->contents[b->words * s];
-        if (order < least && payload(header[KIND]) && b->retired[s] == 0) {
+        if (order < least && payload(header) && b->retired[s] == 0) {
             least = order;
             *front = s;
         }
@@ -432,8 +435,8 @@ static bool reclaimable(const struct board *b, size_t slot)
 {
     const uint32_t *header = b->headers + HEADER_WORDS * slot;
     if (header[KIND] == DELETE)
-        return (uint64_t)header[EPOCH] + ANTI_PAYLOAD_WAIT == b->clock;
-    return b->retired[slot] != 0 && (uint64_t)b->retired[slot] + 2 == b->clock && payload(header[KIND]);
+        return (uint64_t)header[EPOCH] + ANTI_PAYLOAD_WAIT == b->clock && rest_whole(header);
+    return b->retired[slot] != 0 && (uint64_t)b->retired[slot] + 2 == b->clock && payload(header);
 }
 
 /* One lasting line: 1 when it was the clock. */
@@ -468,7 +471,8 @@ static uint64_t step(const struct board *b)
         pass(b, slot, CONTENTS, TICK);
         return 0;
     }
-    b->working[CLOCK] = b->persistent[CLOCK] = b->clock + 1;
+    b->working[CLOCK] = b->clock + 1; /* working first, as in freeing */
+    b->persistent[CLOCK] = b->clock + 1;
     memset(waiting(b, b->clock - 1), 0, b->slots * sizeof *list);
     set_place(b, IDLE, 0);
     return 1;
@@ -509,36 +513,43 @@ uint64_t BYHAND(sync)(STORE)
     return lines;
 }
 
-uint32_t BYHAND(write_back)(LINE_STORE, uint32_t slot, uint32_t line)
+uint32_t BYHAND(write_back)(WORD_STORE, size_t position)
 {
     struct board b;
     uint32_t refusal = ENTER(b);
     if (refusal != 0)
         return refusal;
-    if (slot >= b.slots || line > 1)
-        return BOARD_NO_LINE;
-    if (line == 0)
-        store_contents(&b, slot);
-    else
-        store_header(&b, slot);
+    if (position < PREFIX || position >= working_words)
+        return BOARD_NO_WORD;
+    persistent[position] = working[position];
     return 0;
 }
 
-static bool kept(const uint32_t *header, uint32_t clock)
-{
-    return filled(header[KIND]) && (uint64_t)header[EPOCH] + 2 <= clock;
-}
+static bool old(const uint32_t *header, uint32_t clock) { return (uint64_t)header[EPOCH] + 2 <= clock; }
+static bool kept(const uint32_t *header, uint32_t clock) { return filled(header) && old(header, clock); }
 
-static bool proper(const uint32_t *header, uint32_t clock)
+/* Of a header of four nonzero words. */
+static bool in_range(const uint32_t *header, uint32_t clock)
 {
-    if (header[KIND] == FREE)
-        return header[EPOCH] == 0 && header[UID] == 0 && header[BOARD] == 0;
-    return header[KIND] <= DELETE && header[EPOCH] >= 2 && header[EPOCH] <= clock && header[UID] - 1 < LARGEST &&
-           header[BOARD] - 1 < QUEUE;
+    return header[KIND] <= DELETE && header[EPOCH] >= 2 && header[EPOCH] <= clock && header[UID] <= LARGEST &&
+           header[BOARD] <= QUEUE;
 }
 
 /* A key that a survivor may have. */
 static bool key_ok(uint32_t board, uint32_t key) { return key != 0 && (board != QUEUE || key <= LARGEST); }
+
+/* Whether two survivors have one key on one board. */
+static bool name_twice(const uint32_t *image, const bool *survives)
+{
+    size_t slots = image[SLOTS], words = image[WORDS];
+    const uint32_t *headers = image + PREFIX, *contents = image + contents_at(slots);
+    for (size_t s = 0; s < slots; s++)
+        for (size_t t = 0; survives[s] && t < s; t++)
+            if (contents[words * t] == contents[words * s] && survives[t] &&
+                headers[HEADER_WORDS * t + BOARD] == headers[HEADER_WORDS * s + BOARD])
+                return true;
+    return false;
+}
 
 /* Refusals 1 to 4 of an image, and which of its slots survive. Every pair of kept slots is looked at once. */
 static uint32_t judge(const uint32_t *image, size_t length, bool survives[MOST_SLOTS])
@@ -553,11 +564,14 @@ static uint32_t judge(const uint32_t *image, size_t length, bool survives[MOST_S
     bool twice = false;
     for (size_t s = 0; s < slots; s++) {
         const uint32_t *mine = headers + HEADER_WORDS * s;
-        if (!proper(mine, clock))
-            return BOARD_BAD_SLOT;
-        survives[s] = kept(mine, clock) && mine[KIND] != DELETE;
-        if (!kept(mine, clock))
+        survives[s] = false;
+        if (mine[KIND] == FREE || !rest_whole(mine))
             continue;
+        if (!in_range(mine, clock))
+            return BOARD_BAD_SLOT;
+        if (!old(mine, clock))
+            continue;
+        survives[s] = mine[KIND] != DELETE;
         for (size_t t = 0; t < s; t++) {
             const uint32_t *other = headers + HEADER_WORDS * t;
             if (other[UID] != mine[UID] || !kept(other, clock))
@@ -571,12 +585,7 @@ static uint32_t judge(const uint32_t *image, size_t length, bool survives[MOST_S
     for (size_t s = 0; s < slots; s++)
         if (survives[s] && !key_ok(headers[HEADER_WORDS * s + BOARD], contents[words * s]))
             return BOARD_BAD_SLOT;
-    for (size_t s = 0; s < slots && !twice; s++)
-        for (size_t t = 0; survives[s] && t < s; t++)
-            if (contents[words * t] == contents[words * s] && survives[t] &&
-                headers[HEADER_WORDS * t + BOARD] == headers[HEADER_WORDS * s + BOARD])
-                twice = true;
-    return twice ? BOARD_DUPLICATE : 0;
+    return twice || name_twice(image, survives) ? BOARD_DUPLICATE : 0;
 }
 
 uint64_t BYHAND(recover)(STORE)
@@ -600,7 +609,7 @@ uint64_t BYHAND(recover)(STORE)
         } else if (header[KIND] == DELETE && kept(header, persistent[CLOCK])) {
             if (anti == NONE)
                 anti = s;
-        } else if (header[KIND] != FREE) {
+        } else if ((header[KIND] | header[EPOCH] | header[UID] | header[BOARD]) != 0) {
             memset(header, 0, HEADER_WORDS * sizeof *header);
             return BOARD_WENT_ON;
         }

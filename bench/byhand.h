@@ -16,7 +16,7 @@
                     size_t persistent_words, uint32_t *transient, size_t transient_words
 #define CHANGE_STORE uint32_t *working, size_t working_words, const uint32_t *persistent, size_t persistent_words, \
                      uint32_t *transient, size_t transient_words
-#define LINE_STORE const uint32_t *working, size_t working_words, uint32_t *persistent, size_t persistent_words, \
+#define WORD_STORE const uint32_t *working, size_t working_words, uint32_t *persistent, size_t persistent_words, \
                    const uint32_t *transient, size_t transient_words
 
 uint32_t BYHAND(format)(STORE, uint32_t slots, uint32_t words);
@@ -31,7 +31,7 @@ uint32_t BYHAND(take)(CHANGE_STORE, uint32_t thread);
 uint64_t BYHAND(look)(READ_STORE, uint32_t thread);
 uint64_t BYHAND(advance)(STORE);
 uint64_t BYHAND(sync)(STORE);
-uint32_t BYHAND(write_back)(LINE_STORE, uint32_t slot, uint32_t line);
+uint32_t BYHAND(write_back)(WORD_STORE, size_t position);
 uint64_t BYHAND(recover)(STORE);
 uint64_t BYHAND(survivors)(const uint8_t *image, size_t bytes);
 
@@ -49,7 +49,7 @@ struct calls {
     uint64_t (*look)(READ_STORE, uint32_t thread);
     uint64_t (*advance)(STORE);
     uint64_t (*sync)(STORE);
-    uint32_t (*write_back)(LINE_STORE, uint32_t slot, uint32_t line);
+    uint32_t (*write_back)(WORD_STORE, size_t position);
     uint64_t (*recover)(STORE);
     uint64_t (*survivors)(const uint8_t *image, size_t bytes);
 };

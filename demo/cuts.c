@@ -1,5 +1,5 @@
-/* The power fails after a store. The lasting image is all that is left; recovery makes a board of it again, and the
-   desk's log says what that board has to hold. */
+/* The power fails after a store, or within it. The lasting image is all that is left; recovery makes a board of it again,
+   and the desk's log says what that board has to hold. */
 
 #include "cuts.h"
 
@@ -97,9 +97,10 @@ static void hold_against_log(const struct desk *d, struct outcome *o)
     }
 }
 
-void recover(const struct desk *d, struct outcome *o)
+/* Recovers a copy of a lasting image. */
+static void recover_image(const struct desk *d, const uint32_t *image, struct outcome *o)
 {
-    uint32_t *working = block(d->image * 4), *persistent = copy(d->persistent, d->image), *transient = block(d->notes * 4);
+    uint32_t *working = block(d->image * 4), *persistent = copy(image, d->image), *transient = block(d->notes * 4);
     memset(working, 0xA5, d->image * 4);
     memset(transient, 0xA5, d->notes * 4);
     o->clock = persistent[CLOCK];
@@ -118,6 +119,8 @@ void recover(const struct desk *d, struct outcome *o)
     free(transient);
     hold_against_log(d, o);
 }
+
+void recover(const struct desk *d, struct outcome *o) { recover_image(d, d->persistent, o); }
 
 uint64_t stores_of(day *play, uint32_t size, uint32_t slots, uint64_t seed, uint64_t *busy_from)
 {
@@ -165,10 +168,9 @@ void find_worst(struct desk *d, struct worst *worst, uint32_t stops, uint64_t se
 
 /* ---- Every cut of a day ---- */
 
-static void count_cut(struct desk *d)
+static void count_cut(const struct desk *d, const uint32_t *image, struct tally *t)
 {
-    struct tally *t = d->told;
-    recover(d, &t->o);
+    recover_image(d, image, &t->o);
     t->cuts++;
     t->recovered += t->o.calls;
     t->wrong_cuts += t->o.wrong > 0;
@@ -178,9 +180,40 @@ static void count_cut(struct desk *d)
         t->most_lost = t->o.lost;
     if (t->o.returned > t->most_returned)
         t->most_returned = t->o.returned;
+}
+
+/* The cut falls within the store that was made last: of its words some arrived, some did not. A store of one word is
+   whole, and so is one of which chance lets every word arrive, or none. */
+static void count_cut_within(const struct desk *d, struct tally *t)
+{
+    uint32_t *image = copy(t->last, d->image);
+    size_t arrived = 0, missing = 0;
+    for (size_t i = 0; i < d->image; i++) {
+        if (t->last[i] == d->persistent[i])
+            continue;
+        if (below(&t->random, 2) == 0) {
+            missing++;
+        } else {
+            image[i] = d->persistent[i];
+            arrived++;
+        }
+    }
+    if (arrived > 0 && missing > 0) {
+        t->within++;
+        count_cut(d, image, t);
+    }
+    free(image);
+}
+
+static void count_store(struct desk *d)
+{
+    struct tally *t = d->told;
+    count_cut_within(d, t);
+    count_cut(d, d->persistent, t);
+    memcpy(t->last, d->persistent, d->image * sizeof *t->last);
     if (time(NULL) >= t->said + 5) {
         t->said = time(NULL);
-        fprintf(stderr, "  ... %" PRIu64 " of about %" PRIu64 " cuts\n", t->cuts, t->all);
+        fprintf(stderr, "  ... %" PRIu64 " of about %" PRIu64 " stores\n", d->stores, t->stores);
     }
 }
 
@@ -191,11 +224,14 @@ const struct tally *count_day(day *play, const struct calls *calls, uint32_t siz
     memset(&t, 0, sizeof t);
     t.said = time(NULL);
     uint64_t from;
-    t.all = stores_of(play, size, slots, seed, &from);
+    t.stores = stores_of(play, size, slots, seed, &from);
+    t.random = seed;
     open_desk(&d, calls, slots, seed, 0);
-    d.after_store = count_cut;
+    t.last = copy(d.persistent, d.image);
+    d.after_store = count_store;
     d.told = &t;
     play(&d, size);
     close_desk(&d);
+    free(t.last);
     return &t;
 }

@@ -44,15 +44,17 @@ struct worst {
    a job back. The desk is left open. */
 void find_worst(struct desk *d, struct worst *worst, uint32_t stops, uint64_t seed, uint64_t cut);
 
-/* What every cut of a day came to. */
+/* What every cut of a day came to: one after each store, and one within it where it is of more than a word. */
 struct tally {
     struct outcome o;
-    uint64_t cuts, all, recovered, wrong_cuts, queue_wrong_cuts, returned_cuts;
+    uint32_t *last; /* the lasting image before the store */
+    uint64_t random;
+    uint64_t cuts, within, stores, recovered, wrong_cuts, queue_wrong_cuts, returned_cuts;
     uint32_t most_lost, most_returned;
     time_t said;
 };
 
-/* Plays a day and recovers after every single store of it. The tally is good until the next call. */
+/* Plays a day and recovers after every single store of it, and within it. The tally is good until the next call. */
 const struct tally *count_day(day *play, const struct calls *calls, uint32_t size, uint32_t slots, uint64_t seed);
 
 #endif

@@ -112,7 +112,7 @@ static void print_account(const struct desk *d, const struct outcome *o)
     for (const struct change *change = d->log; change < d->log + d->changes && first < 0; change++)
         if (change->epoch > o->clock - 2)
             first = change->minute;
-    printf("\n  recovery took %" PRIu32 " calls and freed %" PRIu32 " slots\n", o->calls, o->calls - 1);
+    printf("\n  recovery took %" PRIu32 " calls and cleared %" PRIu32 " headers\n", o->calls, o->calls - 1);
     if (o->lost > 0)
         printf("  lost: the %" PRIu32 " changes made since %s, those of the last two epochs\n", o->lost, hour(first));
     else
@@ -214,10 +214,16 @@ static void show_second_day(uint32_t stops, uint64_t seed)
     show_early(stops, seed, cut);
 }
 
+static void print_tally(const char *day, uint32_t size, const char *of, const struct tally *t)
+{
+    printf("%s, %" PRIu32 " %s: %" PRIu64 " cuts, %" PRIu64 " of them within the store of a line, %" PRIu64
+           " recover calls\n", day, size, of, t->cuts, t->within, t->recovered);
+}
+
 static void every_cut(uint32_t jobs, uint32_t stops, uint64_t seed)
 {
     const struct tally *t = count_day(first_day, &library, jobs, slots_for(jobs), seed);
-    printf("FIRST DAY, %" PRIu32 " jobs: %" PRIu64 " cuts, %" PRIu64 " recover calls\n", jobs, t->cuts, t->recovered);
+    print_tally("FIRST DAY", jobs, "jobs", t);
     printf("  everything older than two epochs is there at %" PRIu64 " of %" PRIu64 " cuts: %s\n",
            t->cuts - t->wrong_cuts, t->cuts, verdict(t->wrong_cuts == 0));
     printf("  the queue of hand-overs is in order at %" PRIu64 " of %" PRIu64 " cuts: %s\n",
@@ -225,8 +231,7 @@ static void every_cut(uint32_t jobs, uint32_t stops, uint64_t seed)
     printf("  the most changes lost at one cut: %" PRIu32 "\n\n", t->most_lost);
 
     t = count_day(second_day, &library, stops, slots_for(stops / 3), seed);
-    printf("SECOND DAY, %" PRIu32 " stops: %" PRIu64 " cuts, %" PRIu64 " recover calls\n", stops, t->cuts,
-           t->recovered);
+    print_tally("SECOND DAY", stops, "stops", t);
     printf("  everything older than two epochs is there at %" PRIu64 " of %" PRIu64 " cuts: %s\n",
            t->cuts - t->wrong_cuts, t->cuts, verdict(t->wrong_cuts == 0));
     printf("  the queue of hand-overs is in order at %" PRIu64 " of %" PRIu64 " cuts: %s\n",

@@ -1,5 +1,5 @@
 /* The desk's day: jobs are opened, moved and closed, parcels are handed over in order, an advance goes on in between, and
-   the memory writes lines back. */
+   the memory copies single words by itself. */
 
 #include "desk.h"
 
@@ -82,13 +82,17 @@ static void advance(struct desk *d, int lines)
     }
 }
 
-/* The memory writes a line back by itself. */
+/* The memory copies a word by itself, most often one that has changed. */
 static void write_back(struct desk *d)
 {
     if (d->dark)
         return;
-    uint32_t slot = below(&d->random, d->slots), line = below(&d->random, 2);
-    uint32_t refusal = d->calls->write_back(STORE_OF(d), slot, line);
+    size_t position;
+    int tries = 100;
+    do
+        position = FIRST_WORD + below(&d->random, (uint32_t)d->image - FIRST_WORD);
+    while (d->working[position] == d->persistent[position] && --tries > 0);
+    uint32_t refusal = d->calls->write_back(STORE_OF(d), position);
     if (refusal != 0)
         stop("write-back", refusal);
     stored(d);
@@ -206,7 +210,7 @@ static void end(struct desk *d)
     uint32_t refusal = d->calls->end(STORE_OF(d), 0);
     if (refusal != 0)
         stop("end", refusal);
-    if (below(&d->random, 3) == 0)
+    for (uint32_t words = below(&d->random, 3); words > 0; words--)
         write_back(d);
     if (d->minute % MINUTES_OF_EPOCH == 2)
         advance(d, 8);

@@ -6,7 +6,8 @@
 
 #include <stdbool.h>
 
-enum { WORDS = 4, VALUE_WORDS = WORDS - 1, THREADS = 2, FIRST_KEY = 1001, MOST_JOBS = 8192, CLOCK = 2 };
+enum { WORDS = 4, VALUE_WORDS = WORDS - 1, THREADS = 2, FIRST_KEY = 1001, MOST_JOBS = 8192 };
+enum { CLOCK = 2, FIRST_WORD = 3 }; /* of an image: the clock, and the first word of a header */
 enum { COURIER, ADDRESS, DUE };   /* the words of a job's value */
 enum { PARCEL, GIVER, RECEIVER }; /* and of a hand-over's */
 enum { LEAST_WAITING = 3, MOST_WAITING = 12 };

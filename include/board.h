@@ -9,15 +9,19 @@
  *
  * An image of N slots (2 to 1,024) with W words of contents each (2 to 9) has 3 + 4N + WN words:
  * N, W, the clock, then N headers (kind, epoch, uid, board), then N contents (key, W - 1 value
- * words). The smallest has 15 words, the largest 13,315, which are 53,260 bytes. A header that is
- * free is four zeros. The notes of T threads (1 to 16) have 6 + T + 3N words and begin with N; T is
- * what their length leaves. board_image_words and board_transient_words work the lengths out.
+ * words). The smallest has 15 words, the largest 13,315, which are 53,260 bytes. The notes of T
+ * threads (1 to 16) have 6 + T + 3N words and begin with N; T is what their length leaves.
+ * board_image_words and board_transient_words work the lengths out.
+ *
+ * A header with any of its four words 0 counts as free, for every call and every question, whatever
+ * the others are. A slot is freed by storing four zeros; other words in a free header are what is left
+ * of a store that a power cut fell into, and recovery zeroes them.
  *
  * The board word says what a slot holds: 1 is a job, 2 an entry of the queue. Each board has keys of
  * its own. You never pass it: new and append write it, set, delete and take carry it on, the calls on
  * jobs look at no slot of the queue, those on the queue at none of a job, and an image with another in
- * a filled header is refused by recover and by the questions (BOARD_BAD_SLOT). The slots are shared:
- * a queue that has filled the board leaves no room for a job, and the other way round.
+ * a header of four nonzero words is refused by recover and by the questions (BOARD_BAD_SLOT). The slots
+ * are shared: a queue that has filled the board leaves no room for a job, and the other way round.
  *
  * An older layout had headers of three words, without the board. Every call refuses an image of it
  * (BOARD_SIZES), as it is N words shorter than its N and W ask for. There is no conversion: empty
@@ -54,22 +58,32 @@
  * board_recover is called; between calls nobody else writes into the three blocks.
  *
  * WHAT HAS TO BE FLUSHED BEFORE WHAT. Only format, advance, sync, write_back and recover store into
- * persistent. A line is one slot's header, one slot's contents, or the clock word; the memory under
- * persistent must take a line whole or not at all, and lines must become durable in the order in
- * which they are stored. Two ways to have that:
+ * persistent. A line is one slot's header, one slot's contents, or the clock word. An advance call
+ * stores one line, a recover call one at most. The memory under persistent has to do two things:
+ *
+ *   - take an aligned 32-bit word whole or not at all (memory that takes eight aligned bytes whole
+ *     does). The words of one line may become durable in any order, and the power may fail between
+ *     any two of them;
+ *   - keep the lines in their order: all words of a line are durable before any word of the next one.
+ *
+ * Three ways to have the second:
  *
  *   - the machine does it (the caches are in the power-fail domain, or persistent is battery-backed
  *     memory): nothing to flush, use board_sync;
- *   - you do it: use board_advance, which stores one line a call, and flush persistent before the
- *     next call that stores into it. board_sync stores many lines in one call: do not use it then.
+ *   - you do it: use board_advance, and flush persistent after each call, before the next one that
+ *     stores into it; in recovery likewise after each board_recover. board_sync stores many lines in
+ *     one call: do not use it then;
+ *   - only the process can fail, and not the machine: what it stored into a shared mapping of a file
+ *     stays when it is killed, between whichever two words. Nothing to flush.
  *
  * Which line a call stored: an advance that goes on, one slot's contents or header; one that ticks,
  * the clock, word 2; a recover that goes on, one slot's header. A host that does not look flushes the
  * image. Begin, end and the calls on jobs and on the queue store nothing there, and are followed by no
  * flush.
  *
- * AFTER A POWER CUT working and transient are lost and may hold anything. Map persistent again,
- * allocate the other two with the same sizes, and call board_recover until it answers BOARD_DONE.
+ * AFTER A POWER CUT, or when the process was killed, working and transient are lost and may hold
+ * anything. Map persistent again, allocate the other two with the same sizes, and call board_recover
+ * until it answers BOARD_DONE.
  *
  * Every length below is in words, except that of an image's bytes. A call accepts any lengths and
  * any words: it refuses what is not a store, and a refusal changes nothing. The pointers must be
@@ -95,9 +109,9 @@ enum board_refusal {
                                 number out of range */
     BOARD_CLOCK = 2,         /* the clock is not between 2 and 4,000,000,000, the images' clocks differ,
                                 or an operation is open in neither the clock's epoch nor the one before */
-    BOARD_BAD_SLOT = 3,      /* a header neither free nor proper, such as one of another board than 1 and
-                                2, a surviving job or queue entry with key 0, or a surviving queue entry
-                                with key above 4,000,000,000 */
+    BOARD_BAD_SLOT = 3,      /* a header of four nonzero words with one out of range, such as another board
+                                than 1 and 2; a surviving job or queue entry with key 0, or a surviving
+                                queue entry with key above 4,000,000,000 */
     BOARD_DUPLICATE = 4,     /* two kept slots of one uid and epoch, or two surviving jobs or two surviving
                                 queue entries of one key */
     BOARD_NO_THREAD = 5,     /* the thread number is not below T */
@@ -113,7 +127,7 @@ enum board_refusal {
     BOARD_STILL_OPEN = 14,   /* an operation must end first: for an advance that begins one open in the
                                 epoch before the clock's, for a sync any */
     BOARD_LAST_EPOCH = 15,   /* the clock cannot go up by one (advance) or by two (sync) */
-    BOARD_NO_LINE = 16,      /* the slot is not below N, or the line is neither 0 nor 1 */
+    BOARD_NO_WORD = 16,      /* the position is of no word in a header or in contents */
     BOARD_EMPTY = 17         /* the queue is empty */
 };
 
@@ -140,7 +154,7 @@ static inline const char *board_refusal_text(uint64_t answer)
     case BOARD_FULL: return "the board is full";
     case BOARD_STILL_OPEN: return "an operation is still open";
     case BOARD_LAST_EPOCH: return "the clock has reached its end";
-    case BOARD_NO_LINE: return "there is no such line";
+    case BOARD_NO_WORD: return "there is no word of a header or of contents at that position";
     case BOARD_EMPTY: return "the queue is empty";
     default: return "no refusal has this number";
     }
@@ -292,14 +306,15 @@ uint64_t board_sync(uint32_t *working, size_t working_words,
                     uint32_t *persistent, size_t persistent_words,
                     uint32_t *transient, size_t transient_words);
 
-/* Copies one line of a slot from working to persistent: its contents (line 0) or the four words of
- * its header (line 1). No server needs it. It stands for what a cache does by itself at any moment,
- * and is harmless between any two calls; tests use it to show that. It answers 0 or the refusal.
- * Refusals: BOARD_NO_LINE. */
+/* Copies one word of the image from working to persistent: its position counts from 0, and words 0 to
+ * 2, the sizes and the clock, are not copied. No server needs it. It stands for what a cache does by
+ * itself at any moment, and is harmless between any two calls; tests use it to show that. It answers 0
+ * or the refusal.
+ * Refusals: BOARD_NO_WORD (a position below 3, or past the image's end). */
 uint32_t board_write_back(const uint32_t *working, size_t working_words,
                           uint32_t *persistent, size_t persistent_words,
                           const uint32_t *transient, size_t transient_words,
-                          uint32_t slot, uint32_t line);
+                          size_t position);
 
 /* ---- After a power cut ---- */
 
@@ -311,10 +326,10 @@ enum board_recovery {
 
 /* One step of recovery, after a power cut. What working and transient hold does not matter; only
  * their lengths are judged. Each call checks the persistent image and stores into one header of it
- * at most; flush that header before you call again. Call until BOARD_DONE: at most N calls go on
- * before it. Only that last call fills working and transient. A power cut between these calls, or
- * in one before or after its store, does no harm: begin again. An image that is accepted once is
- * accepted to the end.
+ * at most, four zeros; flush that header before you call again. Call until BOARD_DONE: at most N calls
+ * answer BOARD_WENT_ON before it, cuts in between or not. Only that last call fills working and
+ * transient. A power cut between these calls, or in one before, within or after its store, does no
+ * harm: begin again. An image that is accepted once is accepted to the end.
  *
  *     uint64_t r;
  *     while ((r = board_recover(w, wn, p, pn, t, tn)) == BOARD_WENT_ON)
