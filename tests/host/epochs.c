@@ -2,8 +2,7 @@
    within a store.
    Usage: epochs */
 
-#include "board.h"
-#include "checks.h"
+#include "store.h"
 
 enum { SLOTS = 8, WORDS = 3, THREADS = 2, VALUE_WORDS = WORDS - 1, PREFIX = 3, KEY = 7 };
 enum { KIND, EPOCH, UID, BOARD, HEADER_WORDS };
@@ -12,52 +11,21 @@ enum { CONTENTS = PREFIX + HEADER_WORDS * SLOTS };
 _Static_assert(BOARD_STILL_OPEN == 14 && BOARD_LAST_EPOCH == 15 && BOARD_NO_WORD == 16, "the header's refusals");
 _Static_assert(BOARD_STORED == 0 && BOARD_TICKED == 1, "what an advance call did");
 
-/* The lengths are in words; `last` is an image beside the store, for what persistent was. */
-struct store {
-    size_t n, tn;
-    uint32_t *w, *p, *t, *last;
-};
-
-#define STORE(s) (s)->w, (s)->n, (s)->p, (s)->n, (s)->t, (s)->tn
-
 static const uint32_t value[VALUE_WORDS] = {31, 32};
 
-static struct store new_store(void)
-{
-    struct store s = {.n = board_image_words(SLOTS, WORDS), .tn = board_transient_words(SLOTS, THREADS)};
-    s.w = block(s.n);
-    s.p = block(s.n);
-    s.t = block(s.tn);
-    s.last = block(s.n);
-    same("format", board_format(STORE(&s), SLOTS, WORDS), 0);
-    return s;
-}
+/* What persistent was. */
+static uint32_t last[CONTENTS + WORDS * SLOTS];
 
-static void free_store(struct store *s)
-{
-    free(s->w);
-    free(s->p);
-    free(s->t);
-    free(s->last);
-}
+static void keep(const struct store *s) { memcpy(last, s->persistent, sizeof last); }
+static void as_kept(const char *what, const struct store *s) { same(what, !!memcmp(s->persistent, last, sizeof last), 0); }
 
-static void keep(struct store *s) { memcpy(s->last, s->p, s->n * sizeof *s->p); }
-static void as_kept(const char *what, const struct store *s) { same(what, !!memcmp(s->p, s->last, 4 * s->n), 0); }
-
-/* The power is cut: what was in ordinary memory is gone. */
-static void power_cut(struct store *s)
-{
-    memset(s->w, 0x5A, s->n * sizeof *s->w);
-    memset(s->t, 0x5A, s->tn * sizeof *s->t);
-}
-
-static uint64_t survivors(const struct store *s) { return board_survivors((const uint8_t *)s->p, 4 * s->n); }
+static uint64_t survivors(const struct store *s) { return board_survivors((const uint8_t *)s->persistent, 4 * s->image); }
 
 /* One job, line by line. */
 static void made_lasting(struct store *s)
 {
     same("a sync where nothing changed", board_sync(STORE(s)), 2);
-    same("the clock after it", s->p[2], 4);
+    same("the clock after it", s->persistent[2], 4);
     same("begin", board_begin(STORE(s), 0), 0);
     same("new", board_new(STORE(s), 0, KEY, value, VALUE_WORDS), 0);
     same("a sync with an operation open", board_sync(STORE(s)), BOARD_REFUSED + BOARD_STILL_OPEN);
@@ -66,11 +34,11 @@ static void made_lasting(struct store *s)
     same("end", board_end(STORE(s), 0), 0);
 
     same("the job's contents", board_advance(STORE(s)), BOARD_STORED);
-    same("the key in persistent", s->p[CONTENTS], KEY);
-    same("its header is not there yet", s->p[PREFIX + KIND], 0);
+    same("the key in persistent", s->persistent[CONTENTS], KEY);
+    same("its header is not there yet", s->persistent[PREFIX + KIND], 0);
     same("the job's header", board_advance(STORE(s)), BOARD_STORED);
-    same("the kind in persistent", s->p[PREFIX + KIND], 1);
-    same("the board in persistent", s->p[PREFIX + BOARD], 1);
+    same("the kind in persistent", s->persistent[PREFIX + KIND], 1);
+    same("the board in persistent", s->persistent[PREFIX + BOARD], 1);
     same("the survivors before the tick", survivors(s), 0);
     same("the clock", board_advance(STORE(s)), BOARD_TICKED);
     same("the survivors after it", survivors(s), 1);
@@ -85,16 +53,16 @@ static void delete_lost(struct store *s)
     same("end of it", board_end(STORE(s), 1), 0);
     for (size_t i = 0; i < HEADER_WORDS; i++)
         same("a word of the DELETE's header written back", board_write_back(STORE(s), anti + i), 0);
-    same("the kind there", s->p[anti + KIND], 3);
-    same("the board there", s->p[anti + BOARD], 1);
+    same("the kind there", s->persistent[anti + KIND], 3);
+    same("the board there", s->persistent[anti + BOARD], 1);
 
     power_cut(s);
     same("recovery frees the DELETE", board_recover(STORE(s)), BOARD_WENT_ON);
     same("recovery", board_recover(STORE(s)), BOARD_DONE);
     uint64_t at = board_read(STORE(s), 0, KEY);
     same("where the job stands", at, CONTENTS + 1);
-    if (at + VALUE_WORDS <= s->n)
-        same("its value", !!memcmp(s->w + at, value, sizeof value), 0);
+    if (at + VALUE_WORDS <= s->image)
+        same("its value", !!memcmp(s->working + at, value, sizeof value), 0);
 }
 
 static void deleted_and_the_end(struct store *s)
@@ -105,7 +73,7 @@ static void deleted_and_the_end(struct store *s)
     same("the lines of a sync", board_sync(STORE(s)), 4);
     same("the survivors after the sync", survivors(s), 0);
 
-    s->w[2] = s->p[2] = 4000000000;
+    s->working[2] = s->persistent[2] = 4000000000;
     same("an advance at the last epoch", board_advance(STORE(s)), BOARD_REFUSED + BOARD_LAST_EPOCH);
     same("a sync at the last epoch", board_sync(STORE(s)), BOARD_REFUSED + BOARD_LAST_EPOCH);
 }
@@ -113,17 +81,17 @@ static void deleted_and_the_end(struct store *s)
 /* One word is copied, and only where it is one of a header or of contents. */
 static void words_written_back(struct store *s)
 {
-    const size_t n = s->n, outside[] = {0, 1, 2, n, n + 1, ((size_t)1 << 32) + PREFIX, SIZE_MAX};
+    const size_t n = s->image, outside[] = {0, 1, 2, n, n + 1, ((size_t)1 << 32) + PREFIX, SIZE_MAX};
     const size_t inside[] = {PREFIX, PREFIX + HEADER_WORDS, CONTENTS, n - 1};
     for (size_t i = PREFIX; i < n; i++)
-        s->w[i] = 1000 + (uint32_t)i;
+        s->working[i] = 1000 + (uint32_t)i;
     keep(s);
     for (size_t i = 0; i < sizeof outside / sizeof *outside; i++)
         same("no word of a slot", board_write_back(STORE(s), outside[i]), BOARD_NO_WORD);
     as_kept("no word is copied then", s);
     for (size_t i = 0; i < sizeof inside / sizeof *inside; i++) {
         same("a word of a slot", board_write_back(STORE(s), inside[i]), 0);
-        s->last[inside[i]] = s->w[inside[i]];
+        last[inside[i]] = s->working[inside[i]];
         as_kept("that word alone is copied", s);
     }
 }
@@ -140,11 +108,11 @@ static void header_torn(struct store *s)
     same("the contents", board_advance(STORE(s)), BOARD_STORED);
     keep(s);
     same("the header", board_advance(STORE(s)), BOARD_STORED);
-    memcpy(whole, s->p + PREFIX, sizeof whole);
+    memcpy(whole, s->persistent + PREFIX, sizeof whole);
     for (unsigned arrived = 1; arrived < (1 << HEADER_WORDS) - 1; arrived++) {
         for (size_t i = 0; i < HEADER_WORDS; i++)
-            s->p[PREFIX + i] = arrived >> i & 1 ? whole[i] : 0;
-        same("the image is accepted", board_clock((const uint8_t *)s->p, 4 * s->n), 3);
+            s->persistent[PREFIX + i] = arrived >> i & 1 ? whole[i] : 0;
+        same("the image is accepted", board_clock((const uint8_t *)s->persistent, 4 * s->image), 3);
         power_cut(s);
         same("recovery zeroes what is left", board_recover(STORE(s)), BOARD_WENT_ON);
         as_kept("as before the store", s);
@@ -156,24 +124,24 @@ static void header_torn(struct store *s)
 /* A header with a word out of range is refused where all four words are there, and counts as free where one is 0. */
 static void header_out_of_range(struct store *s)
 {
-    memcpy(s->p + PREFIX, (uint32_t[HEADER_WORDS]){4, 2, 2, 1}, HEADER_WORDS * sizeof *s->p);
+    memcpy(s->persistent + PREFIX, (uint32_t[HEADER_WORDS]){4, 2, 2, 1}, HEADER_WORDS * sizeof *s->persistent);
     same("kind 4", board_recover(STORE(s)), BOARD_REFUSED + BOARD_BAD_SLOT);
-    s->p[PREFIX + BOARD] = 0;
+    s->persistent[PREFIX + BOARD] = 0;
     same("kind 4 without a board", board_recover(STORE(s)), BOARD_WENT_ON);
-    same("it is zeroed", s->p[PREFIX + KIND], 0);
+    same("it is zeroed", s->persistent[PREFIX + KIND], 0);
 }
 
 int main(void)
 {
-    struct store s = new_store();
+    struct store s = new_store(SLOTS, WORDS, THREADS);
     made_lasting(&s);
     delete_lost(&s);
     deleted_and_the_end(&s);
     free_store(&s);
-    s = new_store();
+    s = new_store(SLOTS, WORDS, THREADS);
     words_written_back(&s);
     free_store(&s);
-    s = new_store();
+    s = new_store(SLOTS, WORDS, THREADS);
     header_torn(&s);
     header_out_of_range(&s);
     free_store(&s);

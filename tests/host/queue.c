@@ -2,8 +2,7 @@
    of the headers, and what is refused.
    Usage: queue */
 
-#include "board.h"
-#include "checks.h"
+#include "store.h"
 
 enum { SLOTS = 8, WORDS = 3, THREADS = 2, VALUE_WORDS = WORDS - 1, PREFIX = 3, HEADER_WORDS = 4 };
 enum { FREE, ALLOC, UPDATE, DELETE };
@@ -12,32 +11,6 @@ enum { NEXT_UID = 2, NEXT_ORDER = 3 }; /* places in the notes */
 #define LAST_NUMBER UINT64_C(4000000000)
 
 _Static_assert(BOARD_EMPTY == 17, "the header's refusal of an empty queue");
-
-struct store {
-    uint32_t slots;
-    size_t image, notes;
-    uint32_t *w, *p, *t;
-};
-
-#define STORE(s) (s)->w, (s)->image, (s)->p, (s)->image, (s)->t, (s)->notes
-
-static struct store new_store(uint32_t slots)
-{
-    struct store s = {.slots = slots, .image = board_image_words(slots, WORDS),
-                      .notes = board_transient_words(slots, THREADS)};
-    s.w = block(s.image);
-    s.p = block(s.image);
-    s.t = block(s.notes);
-    same("format", board_format(STORE(&s), slots, WORDS), 0);
-    return s;
-}
-
-static void free_store(struct store *s)
-{
-    free(s->w);
-    free(s->p);
-    free(s->t);
-}
 
 static size_t contents_at(const struct store *s, size_t slot)
 {
@@ -65,9 +38,9 @@ static void front_is(const char *what, const struct store *s, uint32_t thread, u
     same(what, at > 0 && at + VALUE_WORDS <= s->image, 1);
     if (at == 0 || at + VALUE_WORDS > s->image)
         return;
-    same("the order number", s->w[at - 1], order);
-    same("the value's first word", s->w[at], number);
-    same("its second word", s->w[at + 1], 10 * number);
+    same("the order number", s->working[at - 1], order);
+    same("the value's first word", s->working[at], number);
+    same("its second word", s->working[at + 1], 10 * number);
     same("the refusal of that look", board_look_refusal(STORE(s), thread), 0);
 }
 
@@ -78,10 +51,9 @@ static void no_front(const char *what, const struct store *s, uint32_t thread, u
 }
 
 /* The power is cut and comes back: only the persistent image is left. */
-static void power_cut(struct store *s)
+static void cut_and_recovered(struct store *s)
 {
-    memset(s->w, 0x5A, s->image * sizeof *s->w);
-    memset(s->t, 0x5A, s->notes * sizeof *s->t);
+    power_cut(s);
     uint64_t reply = BOARD_WENT_ON;
     for (uint32_t calls = 0; calls <= s->slots && reply == BOARD_WENT_ON; calls++)
         reply = board_recover(STORE(s));
@@ -90,18 +62,18 @@ static void power_cut(struct store *s)
 
 static void first_in_first_out(void)
 {
-    struct store s = new_store(SLOTS);
+    struct store s = new_store(SLOTS, WORDS, THREADS);
     no_front("a look at an empty queue", &s, 0, BOARD_EMPTY);
     same("begin", board_begin(STORE(&s), 0), 0);
     same("a take from an empty queue", board_take(STORE(&s), 0), BOARD_EMPTY);
     for (uint32_t number = 1; number <= 3; number++)
         same("append", append(&s, 0, 70 + number), number);
-    header_is("an entry's header", s.w, 1, (uint32_t[]){ALLOC, 2, 2, QUEUE});
+    header_is("an entry's header", s.working, 1, (uint32_t[]){ALLOC, 2, 2, QUEUE});
     for (uint32_t number = 1; number <= 3; number++) {
         front_is("the front", &s, number % THREADS, number, 70 + number);
         same("take", board_take(STORE(&s), 0), 0);
     }
-    header_is("a header freed at once", s.w, 1, (uint32_t[]){FREE, 0, 0, 0});
+    header_is("a header freed at once", s.working, 1, (uint32_t[]){FREE, 0, 0, 0});
     no_front("a look after the last take", &s, 0, BOARD_EMPTY);
     same("append again", append(&s, 0, 74), 4);
     same("end", board_end(STORE(&s), 0), 0);
@@ -111,7 +83,7 @@ static void first_in_first_out(void)
 /* Entries 1 and 2, made lasting; the clock is 4 then. */
 static struct store two_entries(void)
 {
-    struct store s = new_store(SLOTS);
+    struct store s = new_store(SLOTS, WORDS, THREADS);
     same("begin in epoch 2", board_begin(STORE(&s), 0), 0);
     same("entry 1", append(&s, 0, 71), 1);
     same("entry 2", append(&s, 0, 72), 2);
@@ -124,19 +96,19 @@ static struct store two_entries(void)
 static void numbers_across_cuts(void)
 {
     struct store s = two_entries();
-    header_is("the header made lasting", s.p, 1, (uint32_t[]){ALLOC, 2, 2, QUEUE});
-    same("the order number made lasting", s.p[contents_at(&s, 1)], 2);
-    same("the jobs that the server counts", board_survivors((const uint8_t *)s.p, 4 * s.image), 0);
+    header_is("the header made lasting", s.persistent, 1, (uint32_t[]){ALLOC, 2, 2, QUEUE});
+    same("the order number made lasting", s.persistent[contents_at(&s, 1)], 2);
+    same("the jobs that the server counts", board_survivors((const uint8_t *)s.persistent, 4 * s.image), 0);
 
     same("begin in epoch 4", board_begin(STORE(&s), 0), 0);
     same("take", board_take(STORE(&s), 0), 0);
-    header_is("the DELETE's header", s.w, 2, (uint32_t[]){DELETE, 4, 1, QUEUE});
-    same("its order number", s.w[contents_at(&s, 2)], 1);
-    same("its first value word", s.w[contents_at(&s, 2) + 1], 0);
-    same("its second value word", s.w[contents_at(&s, 2) + 2], 0);
+    header_is("the DELETE's header", s.working, 2, (uint32_t[]){DELETE, 4, 1, QUEUE});
+    same("its order number", s.working[contents_at(&s, 2)], 1);
+    same("its first value word", s.working[contents_at(&s, 2) + 1], 0);
+    same("its second value word", s.working[contents_at(&s, 2) + 2], 0);
     same("append", append(&s, 0, 73), 3);
     front_is("the front before the cut", &s, 0, 2, 72);
-    power_cut(&s);
+    cut_and_recovered(&s);
     front_is("the front after it", &s, 0, 1, 71);
 
     same("begin again", board_begin(STORE(&s), 0), 0);
@@ -144,9 +116,9 @@ static void numbers_across_cuts(void)
     same("take again", board_take(STORE(&s), 0), 0);
     same("end again", board_end(STORE(&s), 0), 0);
     same("sync again", board_sync(STORE(&s)), 6);
-    power_cut(&s);
+    cut_and_recovered(&s);
     front_is("the front after the second cut", &s, 0, 2, 72);
-    same("the next order number", s.t[NEXT_ORDER], 4);
+    same("the next order number", s.transient[NEXT_ORDER], 4);
     free_store(&s);
 }
 
@@ -175,11 +147,11 @@ static void older_operation_waits(void)
 static void full_board(void)
 {
     const uint32_t value[VALUE_WORDS] = {1, 2};
-    struct store s = new_store(3);
+    struct store s = new_store(3, WORDS, THREADS);
     same("begin", board_begin(STORE(&s), 0), 0);
     same("append", append(&s, 0, 71), 1);
     same("a job of the entry's key", board_new(STORE(&s), 0, 1, value, VALUE_WORDS), 0);
-    header_is("the job's header", s.w, 1, (uint32_t[]){ALLOC, 2, 2, JOBS});
+    header_is("the job's header", s.working, 1, (uint32_t[]){ALLOC, 2, 2, JOBS});
     same("append on a full board", append(&s, 0, 72), BOARD_REFUSED + BOARD_FULL);
     same("new on a full board", board_new(STORE(&s), 0, 2, value, VALUE_WORDS), BOARD_FULL);
     same("end", board_end(STORE(&s), 0), 0);
@@ -194,7 +166,7 @@ static void full_board(void)
 static void refusals(void)
 {
     const uint32_t value[WORDS] = {1, 2, 3};
-    struct store s = new_store(SLOTS);
+    struct store s = new_store(SLOTS, WORDS, THREADS);
     same("append of no thread", append(&s, THREADS, 71), BOARD_REFUSED + BOARD_NO_THREAD);
     same("take of no thread", board_take(STORE(&s), THREADS), BOARD_NO_THREAD);
     no_front("look of no thread", &s, THREADS, BOARD_NO_THREAD);
@@ -204,14 +176,14 @@ static void refusals(void)
     same("a short value", board_append(STORE(&s), 0, value, VALUE_WORDS - 1), BOARD_REFUSED + BOARD_BAD_ARGUMENT);
     same("a long value", board_append(STORE(&s), 0, value, VALUE_WORDS + 1), BOARD_REFUSED + BOARD_BAD_ARGUMENT);
 
-    s.t[NEXT_ORDER] = (uint32_t)LAST_NUMBER;
+    s.transient[NEXT_ORDER] = (uint32_t)LAST_NUMBER;
     same("the last order number", append(&s, 0, 71), LAST_NUMBER);
     same("append after it", append(&s, 0, 72), BOARD_REFUSED + BOARD_NO_UID);
     same("new after it", board_new(STORE(&s), 0, 7, value, VALUE_WORDS), 0);
-    s.t[NEXT_ORDER] = 1;
-    s.t[NEXT_UID] = (uint32_t)LAST_NUMBER + 1;
+    s.transient[NEXT_ORDER] = 1;
+    s.transient[NEXT_UID] = (uint32_t)LAST_NUMBER + 1;
     same("append without a uid", append(&s, 0, 72), BOARD_REFUSED + BOARD_NO_UID);
-    s.t[NEXT_UID] = 3;
+    s.transient[NEXT_UID] = 3;
     same("no refused append has used a number", append(&s, 0, 72), 1);
     free_store(&s);
 }

@@ -3,7 +3,7 @@
 #ifndef REFERENCE_H
 #define REFERENCE_H
 
-#include "board.h"
+#include "store.h"
 
 #include <stdbool.h>
 
@@ -14,14 +14,6 @@ enum { JOBS = 1, QUEUE = 2 };                   /* the two boards */
 enum { MOST_SLOTS = 96, MOST_WORDS = 9, MOST_VALUE = MOST_WORDS - 1, MOST_THREADS = 4 };
 enum { MOST_IMAGE = PREFIX + (HEADER_WORDS + MOST_WORDS) * MOST_SLOTS };
 enum { MOST_NOTES = 6 + MOST_THREADS + 3 * MOST_SLOTS };
-
-struct store {
-    uint32_t slots, words, threads;
-    size_t image, notes; /* in words */
-    uint32_t *working, *persistent, *transient;
-};
-
-#define STORE(s) (s)->working, (s)->image, (s)->persistent, (s)->image, (s)->transient, (s)->notes
 
 /* A store of these sizes, its memory still to be set. */
 struct store store_of(uint32_t slots, uint32_t words, uint32_t threads);

@@ -3,48 +3,14 @@
    declines and changes nothing. Images of the old layout, three words a header: every call does.
    Usage: sizes */
 
-#include "board.h"
-#include "checks.h"
+#include "store.h"
 
 #include <stdbool.h>
 
 enum { WORDS = 3, VALUE_WORDS = WORDS - 1, KEY = 7, PREFIX = 3, OLD_HEADER_WORDS = 3 };
 enum { NEXT_UID = 2, NEXT_ORDER = 3 }; /* places in the notes */
 
-struct store {
-    uint32_t slots, threads;
-    size_t image, notes;
-    uint32_t *working, *persistent, *transient;
-};
-
-#define STORE(s) (s)->working, (s)->image, (s)->persistent, (s)->image, (s)->transient, (s)->notes
-
 static const uint32_t value[VALUE_WORDS] = {41, 42};
-
-/* Three blocks, the images of this length. */
-static struct store blocks(uint32_t slots, uint32_t threads, size_t image)
-{
-    struct store s = {.slots = slots, .threads = threads, .image = image,
-                      .notes = board_transient_words(slots, threads)};
-    s.working = block(s.image);
-    s.persistent = block(s.image);
-    s.transient = block(s.notes);
-    return s;
-}
-
-static struct store new_store(uint32_t slots, uint32_t threads)
-{
-    struct store s = blocks(slots, threads, board_image_words(slots, WORDS));
-    same("format", board_format(STORE(&s), slots, WORDS), 0);
-    return s;
-}
-
-static void free_store(struct store *s)
-{
-    free(s->working);
-    free(s->persistent);
-    free(s->transient);
-}
 
 static void copy_store(struct store *to, const struct store *from)
 {
@@ -96,8 +62,8 @@ static void first_job(struct store *s)
 /* The notes are those of the other store as format left them or, where it is used, as its first job did. */
 static void with_notes_of(uint32_t slots, uint32_t threads, uint32_t other_slots, uint32_t other_threads, bool used)
 {
-    struct store s = new_store(slots, threads), other = new_store(other_slots, other_threads);
-    struct store before = new_store(slots, threads);
+    struct store s = new_store(slots, WORDS, threads), other = new_store(other_slots, WORDS, other_threads);
+    struct store before = new_store(slots, WORDS, threads);
     first_job(&s);
     if (used) {
         first_job(&other);
@@ -122,7 +88,7 @@ static void with_notes_of(uint32_t slots, uint32_t threads, uint32_t other_slots
 static void with_note_out_of_range(size_t note)
 {
     const uint32_t outside[] = {0, 4000000002, UINT32_MAX};
-    struct store s = new_store(4, 2), before = new_store(4, 2);
+    struct store s = new_store(4, WORDS, 2), before = new_store(4, WORDS, 2);
     first_job(&s);
     for (size_t i = 0; i < sizeof outside / sizeof *outside; i++) {
         s.transient[note] = outside[i];
@@ -151,7 +117,7 @@ static void of_the_old_layout(uint32_t slots)
 {
     const uint64_t wide = BOARD_REFUSED + BOARD_SIZES;
     const size_t image = PREFIX + (OLD_HEADER_WORDS + WORDS) * slots;
-    struct store fresh = new_store(slots, 1), s = blocks(slots, 1, image), before = blocks(slots, 1, image);
+    struct store fresh = new_store(slots, WORDS, 1), s = blocks(slots, WORDS, 1, image), before = blocks(slots, WORDS, 1, image);
     old_image(s.working, slots);
     old_image(s.persistent, slots);
     memcpy(s.transient, fresh.transient, s.notes * sizeof *s.transient);

@@ -3,46 +3,49 @@ use Prim.Native.Nat.{ℕ, _≤_}
 use mathlib.Core.Path.{_≡_, refl, _∙_}
 use mathlib.Core.Logic.{_⊎_, inl, inr, Iff·trans}
 use native.Mathlib.Omega.{arith}
-use Rattle.crash.specs.Table.{every-put}
-use Rattle.crash.specs.Slots.{Entry, Slot, State, SameHead, SameLine, Worded, Waits, One, Underway, Inv}
+use Rattle.image.specs.Torn.{Mixed}
+use Rattle.crash.specs.Table.{Put, every-put}
+use Rattle.crash.specs.Slots.{Entry, Slot, State, headOf, SameHead, SameLine, Worded, Waits, One, Underway, Inv}
 use Rattle.crash.specs.Steps.{stored, moved, Head, Line}
 use Rattle.crash.specs.OneSlot.{proper-worded, proper-filled}
 use Rattle.crash.specs.Dressed.{Dressed, dressed-two, dressed-next, dressed-shows}
 
--- each word of x's header is w's or p's, and its contents are theirs where these agree
-pub record Mixed (x w p : Entry) : Type 0 where
-  pub kind : (x .kind ≡ w .kind) ⊎ (x .kind ≡ p .kind)
-  pub epoch : (x .epoch ≡ w .epoch) ⊎ (x .epoch ≡ p .epoch)
-  pub uid : (x .uid ≡ w .uid) ⊎ (x .uid ≡ p .uid)
-  pub board : (x .name .board ≡ w .name .board) ⊎ (x .name .board ≡ p .name .board)
+-- x is p with words copied from w: each word of its header is p's or w's, and its contents are theirs where these agree
+pub record Copied (x w p : Entry) : Type 0 where
+  pub head : Mixed (headOf x) (headOf p) (headOf w)
   pub line : SameLine p w → SameLine x w
 
-either : {x w p : ℕ} → (x ≡ w) ⊎ (x ≡ p) → p ≡ w → x ≡ w
-either (inl q) h = q
-either (inr q) h = q ∙ h
+either : {x w p : ℕ} → (x ≡ p) ⊎ (x ≡ w) → p ≡ w → x ≡ w
+either (inl q) h = q ∙ h
+either (inr q) h = q
 
-below : {x w p top : ℕ} → (x ≡ w) ⊎ (x ≡ p) → w ≤ top → p ≤ top → x ≤ top
+below : {x w p top : ℕ} → (x ≡ p) ⊎ (x ≡ w) → w ≤ top → p ≤ top → x ≤ top
 below (inl q) h k = omega arith
 below (inr q) h k = omega arith
 
-module _ {x w p : Entry} (m : Mixed x w p) where
+module _ {x w p : Entry} (m : Copied x w p) where
   -- where the two headers agree, so does x's
   same-head : SameHead p w → SameHead x w
   same-head h =
-      record { kind-is = either (m .kind) (h .kind-is); epoch-is = either (m .epoch) (h .epoch-is); uid-is = either (m .uid) (h .uid-is); board-is = either (m .board) (h .board-is) }
+      record {
+        kind-is = either (m .head .kind) (h .kind-is);
+        epoch-is = either (m .head .epoch) (h .epoch-is);
+        uid-is = either (m .head .uid) (h .uid-is);
+        board-is = either (m .head .board) (h .board-is);
+      }
 
   -- what holds of both epochs holds of x's
   by-epoch : {P : Type 0} → (x .epoch ≡ w .epoch → P) → (x .epoch ≡ p .epoch → P) → P
-  by-epoch f g = elim (m .epoch) [ inl q ↦ f q | inr q ↦ g q ]
+  by-epoch f g = elim (m .head .epoch) [ inl q ↦ g q | inr q ↦ f q ]
 
   worded : {c : ℕ} → Worded c w → Worded c p → Worded c x
   worded a b =
       record {
-        kind-hi = below (m .kind) (a .kind-hi) (b .kind-hi);
+        kind-hi = below (m .head .kind) (a .kind-hi) (b .kind-hi);
         epoch-lo = λ h. by-epoch (λ q. omega (arith, a .epoch-lo (omega arith))) (λ q. omega (arith, b .epoch-lo (omega arith)));
-        epoch-hi = below (m .epoch) (a .epoch-hi) (b .epoch-hi);
-        uid-hi = below (m .uid) (a .uid-hi) (b .uid-hi);
-        board-hi = below (m .board) (a .board-hi) (b .board-hi);
+        epoch-hi = below (m .head .epoch) (a .epoch-hi) (b .epoch-hi);
+        uid-hi = below (m .head .uid) (a .uid-hi) (b .uid-hi);
+        board-hi = below (m .head .board) (a .board-hi) (b .board-hi);
       }
 
   -- where both wait, so does x
@@ -53,7 +56,7 @@ module _ {x w p : Entry} (m : Mixed x w p) where
         in-before = λ e. by-epoch (λ q. h .in-before (omega arith)) (λ q. k .in-before (omega arith));
       }
 
-module _ {a : Slot} {x : Entry} (m : Mixed x (a .working) (a .persistent)) where
+module _ {a : Slot} {x : Entry} (m : Copied x (a .working) (a .persistent)) where
   -- what is said of one slot
   one : {c u o : ℕ} → One c u o a → One c u o (stored x a)
   one {c} w =
@@ -92,37 +95,39 @@ module _ {a : Slot} {x : Entry} (m : Mixed x (a .working) (a .persistent)) where
 
 -- a copy of any words keeps the invariant
 module _ {st : State} {g : ℕ → Slot} (i : Inv st) (all : (s : ℕ) → g s ≡ stored (g s .persistent) (st .slots s))
-    (mixed : (s : ℕ) → Mixed (g s .persistent) (st .slots s .working) (st .slots s .persistent)) where
+    (copied : (s : ℕ) → Copied (g s .persistent) (st .slots s .working) (st .slots s .persistent)) where
   -- the working sides stay
   kept : (s : ℕ) → Dressed (st .slots s) (g s)
   kept s = record { entry = g s .persistent; now = st .slots s .now; before = st .slots s .before; is = all s }
 
-  pub mixed-inv : Inv (moved st g (st .place))
-  mixed-inv = record {
+  pub copied-inv : Inv (moved st g (st .place))
+  copied-inv = record {
     clock-lo = i .clock-lo;
     uid-lo = i .uid-lo;
-    one = λ s. rw (all s) (one (mixed s) (i .one s));
+    one = λ s. rw (all s) (one (copied s) (i .one s));
     two = dressed-two kept (i .two);
     next = dressed-next kept (i .next);
-    underway = λ s. rw (all s) (underway (mixed s) st (i .underway s));
+    underway = λ s. rw (all s) (underway (copied s) st (i .underway s));
     late = i .late;
     shown = λ e lo hi k v. Iff·trans (dressed-shows kept e k v) (i .shown e lo hi k v);
   }
 
--- nothing is copied
-unmixed : {x w : Entry} → Mixed x w x
-unmixed = record { kind = inr refl; epoch = inr refl; uid = inr refl; board = inr refl; line = λ h. h }
+-- .. into one slot
+put-inv : {s : ℕ} {x : Entry} {st : State} {g : ℕ → Slot} → Inv st → Put (st .slots) g s (stored x (st .slots s))
+    → Copied x (st .slots s .working) (st .slots s .persistent) → Inv (moved st g (st .place))
+put-inv {s} {x} {st} {g} i put c =
+    copied-inv i (every-put put (λ m a. a ≡ stored (a .persistent) (st .slots m)) refl (λ m _. refl))
+    (every-put put (λ m a. Copied (a .persistent) (st .slots m .working) (st .slots m .persistent)) c
+    (λ m _. record { head = record { kind = inl refl; epoch = inl refl; uid = inl refl; board = inl refl }; line = λ h. h }))
 
 -- a header
 pub head-inv : {s : ℕ} {st : State} {g : ℕ → Slot} → Inv st → Head s st g → Inv (moved st g (st .place))
-head-inv {s} {st} {g} i t =
-    mixed-inv i (every-put (t .put) (λ m a. a ≡ stored (a .persistent) (st .slots m)) refl (λ m _. refl))
-    (every-put (t .put) (λ m a. Mixed (a .persistent) (st .slots m .working) (st .slots m .persistent))
-    (record { kind = inl refl; epoch = inl refl; uid = inl refl; board = inl refl; line = λ h. record { key-is = h .key-is; value-is = h .value-is } }) (λ m _. unmixed))
+head-inv i t =
+    put-inv i (t .put)
+    (record { head = record { kind = inr refl; epoch = inr refl; uid = inr refl; board = inr refl }; line = λ h. record { key-is = h .key-is; value-is = h .value-is } })
 
 -- contents
 pub line-inv : {s : ℕ} {st : State} {g : ℕ → Slot} → Inv st → Line s st g → Inv (moved st g (st .place))
-line-inv {s} {st} {g} i t =
-    mixed-inv i (every-put (t .put) (λ m a. a ≡ stored (a .persistent) (st .slots m)) refl (λ m _. refl))
-    (every-put (t .put) (λ m a. Mixed (a .persistent) (st .slots m .working) (st .slots m .persistent))
-    (record { kind = inr refl; epoch = inr refl; uid = inr refl; board = inr refl; line = λ h. record { key-is = refl; value-is = refl } }) (λ m _. unmixed))
+line-inv i t =
+    put-inv i (t .put)
+    (record { head = record { kind = inl refl; epoch = inl refl; uid = inl refl; board = inl refl }; line = λ h. record { key-is = refl; value-is = refl } })

@@ -5,7 +5,8 @@ use mathlib.Core.Logic.{_≢_, inl, inr}
 use native.Mathlib.Omega.{arith}
 use native.Mathlib.Decide.{ℕ-discrete}
 use Rattle.image.specs.Name.{names-meet}
-use Rattle.crash.specs.Slots.{Entry, Slot, Filled, Proper, Worded, Whole, SameHead, SameLine, Live, Waits, Flushed, Underway}
+use Rattle.image.specs.Whole.{Whole}
+use Rattle.crash.specs.Slots.{Entry, Slot, Filled, Proper, Worded, headOf, SameHead, SameLine, Live, Waits, Flushed, Underway}
 use Rattle.crash.specs.Steps.{atRest}
 
 -- `Live` as a linear statement, so that omega reads it and proves it
@@ -36,7 +37,7 @@ proper-worded {c} {x} {y} q p =
     }
 
 -- .. and of one that is filled none is 0
-pub proper-whole : {c : ℕ} {x : Entry} → Proper c x → Filled x → Whole x
+pub proper-whole : {c : ℕ} {x : Entry} → Proper c x → Filled x → Whole (headOf x)
 proper-whole p f = record { kind-lo = f; epoch-lo = omega (arith, p .epoch-lo f); uid-lo = p .uid-lo f; board-lo = p .board-lo f }
 
 -- a header and contents make the name

@@ -4,7 +4,8 @@ use mathlib.Core.Path.{_≡_}
 use mathlib.Core.Logic.{_≢_, _⊎_, _↔_}
 use mathlib.Core.List.{List, List·Memᴰ}
 use mathlib.Core.Option.{some}
-use Rattle.image.specs.Layout.{mostNumber, jobsBoard, queueBoard}
+use Rattle.image.specs.declared.header.Header.{Header}
+use Rattle.image.specs.Layout.{mostNumber, jobsBoard, queueBoard, headerOf}
 use Rattle.image.specs.declared.name.Name.{Name}
 use Rattle.image.specs.Name.{Named}
 use Rattle.crash.specs.Table.{Pairwise, Every, Any}
@@ -47,6 +48,10 @@ pub record State : Type 0 where
   pub row : List Change
 
 -- ---- of an entry
+-- its header
+abbrev pub headOf : Entry → Header
+headOf x = headerOf (x .kind) (x .epoch) (x .uid) (x .name .board)
+
 abbrev pub Filled : Entry → Type 0
 Filled x = 1 ≤ x .kind
 
@@ -73,13 +78,6 @@ pub record Worded (c : ℕ) (x : Entry) : Type 0 where
   pub epoch-hi : x .epoch ≤ c
   pub uid-hi : x .uid ≤ mostNumber
   pub board-hi : x .name .board ≤ queueBoard
-
--- no word of its header is 0
-pub record Whole (x : Entry) : Type 0 where
-  pub kind-lo : 1 ≤ x .kind
-  pub epoch-lo : 1 ≤ x .epoch
-  pub uid-lo : 1 ≤ x .uid
-  pub board-lo : 1 ≤ x .name .board
 
 -- the board of a name stands in the header, its key in the contents
 pub record SameHead (x y : Entry) : Type 0 where

@@ -7,8 +7,9 @@ use mathlib.Core.List.{[], _∷_, _++_}
 use Rattle.image.specs.Layout.{mostNumber, jobsBoard, queueBoard}
 use Rattle.image.specs.declared.name.Name.{Name}
 use Rattle.image.specs.Name.{nameOf, Named}
+use Rattle.image.specs.Whole.{Whole}
 use Rattle.crash.specs.Table.{Put, Put2, Pairwise}
-use Rattle.crash.specs.Slots.{Value, Entry, Slot, Place, State, Filled, Payload, Proper, Whole, SameHead, SameLine, Shows, Swept, Flushed}
+use Rattle.crash.specs.Slots.{Value, Entry, Slot, Place, State, Filled, Payload, Proper, headOf, SameHead, SameLine, Shows, Swept, Flushed}
 
 abbrev pub entry : ℕ → ℕ → ℕ → Name → Value → Entry
 entry k e u n v = record { kind = k; epoch = e; uid = u; name = n; value = v }
@@ -201,7 +202,7 @@ pub record Start (st : State) : Type 0 where
 
 -- ---- a cut: what recovery makes of the persistent entries, e being the clock less 2
 pub record Kept (e : ℕ) (x : Entry) : Type 0 where
-  pub whole : Whole x
+  pub whole : Whole (headOf x)
   pub old : x .epoch ≤ e
 
 -- "Of kept slots with one uid the largest label wins; a winner of kind 1 or 2 survives."

@@ -2,7 +2,7 @@
 -- of a line's store.
 use Prim.Native.Nat.{ℕ, _+_, _-_, _≤_}
 use mathlib.Core.Path.{_≡_, refl, sym, _∙_}
-use mathlib.Core.Logic.{_⊎_, inl, inr}
+use mathlib.Core.Logic.{inl}
 use mathlib.Core.List.{List}
 use lib.ListN.{getD, length-set, drop}
 use native.Mathlib.Omega.{arith}
@@ -18,14 +18,10 @@ use Rattle.write_back.specs.Ways.{back-way}
 use Rattle.crash.specs.Reference.{Jobs}
 use Rattle.crash.specs.Slots.{Slot}
 use Rattle.crash.specs.Steps.{stored}
-use Rattle.crash.specs.Lines.{Mixed, mixed-inv}
+use Rattle.crash.specs.Lines.{Copied, copied-inv}
 use Rattle.guarantee.specs.Trace.{Plain}
 use Rattle.guarantee.specs.View.{view, view-in, view-out}
 use Rattle.guarantee.specs.Good.{Image, Good}
-
-turned : {A B : Type 0} → A ⊎ B → B ⊎ A
-turned (inl a) = inr a
-turned (inr b) = inl b
 
 module _ {sz : Sizes} {start : Jobs} {st : Store} {p : Plain} (g : Good sz start st p) {l : List ℕ} (t : Torn (st .persistent) (st .working) l) where
   abbrev st′ : Store
@@ -73,21 +69,14 @@ module _ {sz : Sizes} {start : Jobs} {st : Store} {p : Plain} (g : Good sz start
     | no h ↦ rw (view-out st′ sz (p .clock) s (omega arith), view-out st sz (p .clock) s (omega arith))
   ]
 
-  slot-mixed : (s : ℕ) → Mixed (view st′ sz (p .clock) s .persistent) (slots s .working) (slots s .persistent)
-  slot-mixed s = elim (decLt s (sz .n)) [
+  slot-copied : (s : ℕ) → Copied (view st′ sz (p .clock) s .persistent) (slots s .working) (slots s .persistent)
+  slot-copied s = elim (decLt s (sz .n)) [
     | yes h ↦
-        let m = torn-header t s in
         rw (view-in st′ sz (p .clock) s h, view-in st sz (p .clock) s h)
-        record {
-          kind = turned (m .kind);
-          epoch = turned (m .epoch);
-          uid = turned (m .uid);
-          board = turned (m .board);
-          line = λ q. record { key-is = key-stays s (q .key-is); value-is = value-stays s (q .value-is) };
-        }
+        record { head = torn-header t s; line = λ q. record { key-is = key-stays s (q .key-is); value-is = value-stays s (q .value-is) } }
     | no h ↦
         rw (view-out st′ sz (p .clock) s (omega arith), view-out st sz (p .clock) s (omega arith))
-        record { kind = inl refl; epoch = inl refl; uid = inl refl; board = inl refl; line = λ q. q }
+        record { head = record { kind = inl refl; epoch = inl refl; uid = inl refl; board = inl refl }; line = λ q. q }
   ]
 
   pub torn-good : Good sz start (store (st .working) l (st .transient)) p
@@ -99,7 +88,7 @@ module _ {sz : Sizes} {start : Jobs} {st : Store} {p : Plain} (g : Good sz start
         notes = g .notes;
         opens = g .opens;
         past = g .past;
-        inv = mixed-inv (g .inv) slot-is slot-mixed;
+        inv = copied-inv (g .inv) slot-is slot-copied;
         fifo = g .fifo;
       }
 

@@ -15,6 +15,7 @@ use Rattle.acceptance.specs.Accept.{inRange, proper}
 use Rattle.acceptance.specs.Sound.{filled-proper}
 use Rattle.crash.specs.Slots.{Proper, Worded}
 use Rattle.crash.specs.Steps.{Kept}
+use Rattle.crash.specs.OneSlot.{proper-whole}
 use Rattle.guarantee.specs.View.{entryOf}
 
 -- ---- payload, filled
@@ -23,7 +24,7 @@ payload-of h e = let p = payload-says h e in (p .whole .kind-lo, p .kind-hi)
 
 module _ {c : ℕ} (h : Header) (line : List ℕ) (p : Proper c (entryOf h line)) (k : 1 ≤ h .kind) where
   pub proper-filled : isFilled h ≡ true
-  proper-filled = says-filled h (record { whole = record { kind-lo = k; epoch-lo = omega (arith, p .epoch-lo k); uid-lo = p .uid-lo k; board-lo = p .board-lo k }; kind-hi = p .kind-hi })
+  proper-filled = says-filled h (record { whole = proper-whole p k; kind-hi = p .kind-hi })
 
   pub proper-payload : h .kind ≤ 2 → isPayload h ≡ true
   proper-payload t = says-payload h (record { whole = filled-says h proper-filled .whole; kind-hi = t })
@@ -33,19 +34,15 @@ pub kept-says : (c e : ℕ) (h : Header) (line : List ℕ) → e + 2 ≡ c → k
 unfolding kept
 kept-says c e h line q k =
     let full = isFilled h in
-    let w = filled-says h (and-left full _ k) .whole in
     record {
-      whole = record { kind-lo = w .kind-lo; epoch-lo = w .epoch-lo; uid-lo = w .uid-lo; board-lo = w .board-lo };
+      whole = filled-says h (and-left full _ k) .whole;
       old = omega (arith, leb-true (h .epoch + 2) c (and-right full _ k));
     }
 
 pub says-kept : (c e : ℕ) (h : Header) (line : List ℕ) → e + 2 ≡ c → h .kind ≤ 3 → Kept e (entryOf h line) → kept c h ≡ true
 unfolding kept
 says-kept c e h line q t k =
-    let w = k .whole in
-    and-both
-    (says-filled h (record { whole = record { kind-lo = w .kind-lo; epoch-lo = w .epoch-lo; uid-lo = w .uid-lo; board-lo = w .board-lo }; kind-hi = t }))
-    (le-leb (h .epoch + 2) c (omega (arith, k .old)))
+    and-both (says-filled h (record { whole = k .whole; kind-hi = t })) (le-leb (h .epoch + 2) c (omega (arith, k .old)))
 
 -- ---- proper
 -- words within their bounds: one is 0, or condition 3 has nothing to say

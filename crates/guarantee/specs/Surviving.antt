@@ -58,9 +58,7 @@ module _ (st : Store) (sz : Sizes) (c e : ℕ) (cut : e + 2 ≡ clockOf (st .per
       let p = rw (view-in st sz c s h) at (v .payload) in
       let is-kept = says-kept (clockOf l) e (header l s) (contents l (sz .n) (sz .w) s) cut (omega arith) k in
       let alone = none-some (λ m. beats (clockOf l) (header l s) (header l m)) (sz .n) (unbeaten s h v) in
-      let w = k .whole in
-      let is-payload = says-payload (header l s) (record { whole = record { kind-lo = w .kind-lo; epoch-lo = w .epoch-lo; uid-lo = w .uid-lo; board-lo = w .board-lo }; kind-hi = p }) in
-      (h, and-both is-payload (and-both is-kept (not-is-true alone)))
+      (h, and-both (says-payload (header l s) (record { whole = k .whole; kind-hi = p })) (and-both is-kept (not-is-true alone)))
 
   module _ (kinds : (m : ℕ) → m < sz .n → header l m .kind ≤ 3) where
     -- .. and a survivor of the image one of the table

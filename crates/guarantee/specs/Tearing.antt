@@ -5,8 +5,9 @@ use mathlib.Core.Logic.{_≢_, _⊎_, inl, inr, ⊎-elim}
 use mathlib.Core.List.{List, _∷_, List·Memᴰ, List·Memᴰ·head, List·Memᴰ·tail}
 use borrow.Author.Tests.{eq-eqb, ne-eqb}
 use native.Mathlib.Omega.{arith}
-use Rattle.image.specs.Layout.{slotsOf, clockOf, hasZero, header, freeHeader}
+use Rattle.image.specs.Layout.{slotsOf, clockOf, header, freeHeader}
 use Rattle.image.specs.Line.{headerLine, storeLine}
+use Rattle.image.specs.Whole.{free-zero}
 use Rattle.image.specs.Requires.{header-fits}
 use Rattle.image.specs.Laws.{header-same}
 use Rattle.image.specs.Torn.{Torn, From, torn-same, torn-wider, torn-clock, Remains, torn-freed, header-from, contents-from, word-from}
@@ -49,13 +50,12 @@ module _ {sz : Sizes} {start : Jobs} {m x : Moment} (g : Good sz start (m .store
   -- some words of a header are zeros: it counts as free, as that of zeros does
   part-freed : (s : ℕ) → s < sz .n → x .store .persistent ≡ storeLine (m .store .persistent) (headerLine s freeHeader) → Remains (m .store .persistent) s l
       → Cuts start l (x .plain)
-  unfolding hasZero
   part-freed s b e r =
       let c = good-cuts h in
       let l′ = x .store .persistent in
       let is : l ≡ storeLine l′ (headerLine s (header l s)) = rw e (r .again) in
       let free : header l′ s ≡ freeHeader = rw e (header-same freeHeader (header-fits (g .persistent .sized) b)) in
-      let p = zero-spent l′ (slotsOf l′) s (omega (arith, h .persistent .slots-is)) (rw free refl) in
+      let p = zero-spent l′ (slotsOf l′) s (omega (arith, h .persistent .slots-is)) (rw free free-zero) in
       let same = rw (← is) at (free-keeps l′ s (header l s) (r .zero) (c .accepted) p) in
       record {
         accepted = rw (← is) at (free-accepted l′ s (header l s) (r .zero) (c .accepted) p);

@@ -1,6 +1,6 @@
 -- What the tests of a header say: no word of it is 0, it is filled, it is a payload, it is four zeros.
 use Prim.Native.Nat.{ℕ, _≤_}
-use mathlib.Core.Path.{_≡_}
+use mathlib.Core.Path.{_≡_, refl}
 use mathlib.Core.Bool.{true, false, not, _&&_}
 use lib.Dec.{leb, eqb}
 use borrow.Author.Tests.{leb-true, le-leb, eqb-true, eqb-false, ne-eqb, not-true}
@@ -19,6 +19,11 @@ pub record Whole (h : Header) : Type 0 where
 pub record FilledTo (top : ℕ) (h : Header) : Type 0 where
   pub whole : Whole h
   pub kind-hi : h .kind ≤ top
+
+-- four zeros are free
+pub free-zero : hasZero freeHeader ≡ true
+unfolding hasZero
+free-zero = refl
 
 module _ (h : Header) where
   pub whole-says : hasZero h ≡ false → Whole h

@@ -18,11 +18,11 @@ use Rattle.reply.specs.declared.Check.{Check}
 use Rattle.reply.specs.declared.Check.the-variants.{Accepted, Refused}
 use Rattle.reply.specs.declared.Refusal.{Refusal}
 use Rattle.image.specs.declared.header.Header.{Header}
-use Rattle.image.specs.Layout.{slotsOf, widthOf, isBlank, hasZero, header, freeHeader}
+use Rattle.image.specs.Layout.{slotsOf, widthOf, isBlank, header, freeHeader}
 use Rattle.image.specs.Line.{headerLine, storeLine}
 use Rattle.image.specs.Requires.{header-fits}
 use Rattle.image.specs.Laws.{header-other}
-use Rattle.image.specs.Whole.{blank-says}
+use Rattle.image.specs.Whole.{free-zero, blank-says}
 use Rattle.image.specs.Torn.{Mixed, torn-same, Remains, torn-freed}
 use Rattle.transient.specs.Store.{Store, store, Outcome, afterCheck}
 use Rattle.survival.specs.Survivors.{survivor}
@@ -73,10 +73,6 @@ same-trans {l} {m} {k} a b =
     }
 
 -- ---- a step of recovery, and what a cut leaves of it
-free-zero : hasZero freeHeader ≡ true
-unfolding hasZero
-free-zero = refl
-
 module _ (a : List ℕ) (s : ℕ) (ok : imageCheck a ≡ Accepted) (next : nextFreed a (slotsOf a) ≡ At s) where
   abbrev after : List ℕ
   after = storeLine a (headerLine s freeHeader)
