@@ -310,7 +310,7 @@ uint64_t board_sync(uint32_t *working, size_t working_words,
  * 2, the sizes and the clock, are not copied. No server needs it. It stands for what a cache does by
  * itself at any moment, and is harmless between any two calls; tests use it to show that. It answers 0
  * or the refusal.
- * Refusals: BOARD_NO_WORD (a position below 3, or past the image's end). */
+ * Refusals: BOARD_NO_WORD (a position below 3, or not below the image's length). */
 uint32_t board_write_back(const uint32_t *working, size_t working_words,
                           uint32_t *persistent, size_t persistent_words,
                           const uint32_t *transient, size_t transient_words,
