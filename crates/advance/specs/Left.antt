@@ -156,7 +156,6 @@ step-goes z st c p h =
 -- ---- the same of an advance call
 pub record Moves (st : Store) (x : Outcome Advance) : Type 0 where
   pub slots : slotsOf (x .store .working) ≡ slotsOf (st .working)
-  pub within : note placeAt (st .transient) < slotsOf (st .working) → note placeAt (x .store .transient) < slotsOf (x .store .working)
   pub on : x .reply ≡ WentOn → linesLeft (tableOf (x .store)) < linesLeft (tableOf st)
   pub tick : x .reply ≡ Ticked → (note phaseAt (x .store .transient) ≡ idle) × (1 ≤ linesLeft (tableOf st))
 
@@ -169,7 +168,6 @@ noted-moves z st x e m h g =
     let b = slot-set y (x .place .phase) (x .place .slot) in
     record {
       slots = g .slots;
-      within = λ _. rw (g .slots, e, b) (g .within);
       on = λ q. rw (g .slots, e, a, b) (g .on q);
       tick = λ q. (a ∙ g .tick q, rw e (left-low (z .n) (notedPlace (st .transient)) h));
     }
@@ -188,7 +186,7 @@ pub advance-moves : (st : Store) → Moves st (advance st)
 unfolding nextStep
 advance-moves st =
     advance-way (Moves st) st
-    (λ r. record { slots = refl; within = λ h. h; on = λ e. declined-on e; tick = λ e. declined-tick e })
+    (λ r. record { slots = refl; on = λ e. declined-on e; tick = λ e. declined-tick e })
     (λ a b.
     let y = entry-with (st .working) (st .persistent) (st .transient) a .entered in
     noted-moves (sizesOf (tableOf st)) st (nextStep st) (slots-is st) (y .shaped .notes) (y .place) (step-goes _ st (clockOf (st .working)) (notedPlace (st .transient)) (y .place)))

@@ -84,7 +84,8 @@ fn note_step(
     reply_of(m.ticked)
 }
 
-fn advance_sized(
+// An advance call past refusals 1 and 2. Sync, which has judged them once, loops over it.
+pub fn advance_sized(
     working: &mut [u32],
     persistent: &mut [u32],
     transient: &mut [u32],

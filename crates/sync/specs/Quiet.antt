@@ -1,6 +1,6 @@
 -- A store on which a sync is underway: with no operation open each of its advance calls is accepted, and leaves such a store.
 use Prim.Native.Nat.{ℕ, suc, _+_, _-_, _≤_, _<_}
-use mathlib.Core.Path.{_≡_, refl, _∙_}
+use mathlib.Core.Path.{_≡_, refl, sym, ap, _∙_}
 use mathlib.Core.Bool.{Bool, true, false, not, _&&_}
 use mathlib.Core.List.{List}
 use lib.ListN.{length}
@@ -16,10 +16,11 @@ use Rattle.image.specs.Layout.{mostNumber, slotsOf, clockOf, shapeOk, clockOk}
 use Rattle.transient.specs.declared.sizes.Sizes.{Sizes}
 use Rattle.transient.specs.Layout.{note, slotsAt, lastAt, nextUidAt, nextOrderAt, placeAt, openEpoch, threadsOk}
 use Rattle.transient.specs.Laws.{place-long, place-noted, place-last, place-uid, place-order, place-opens, slot-set}
-use Rattle.transient.specs.Store.{Store, tableOf, sizesOf}
+use Rattle.transient.specs.Store.{Store, store, table, tableOf, sizesOf, outcome}
 use Rattle.transient.specs.Entry.{imagesFit, notesFit, opensOk, entryCheck}
 use Rattle.transient.specs.Requires.{sizesFit, openOk, clocksFit, EnteredWith, notes-after}
-use Rattle.transient.specs.Passed.{entry-with}
+use Rattle.transient.specs.Passed.{entry-with, sized-with}
+use Rattle.step.specs.declared.Advance.{Advance}
 use Rattle.step.specs.declared.Advance.the-variants.{WentOn, Ticked}
 use Rattle.step.specs.Step.{Stepped}
 use Rattle.step.specs.Kept.{Alike, Steady, Clocked, on, tick}
@@ -35,6 +36,11 @@ pub record Quiet (ticks : ℕ) (st : Store) : Type 0 where
   pub entry : entryCheck st ≡ Accepted
   pub none-open : (u : ℕ) → u < sizesOf (tableOf st) .t → openEpoch (st .transient) u ≡ 0
   pub room : clockOf (st .working) + ticks ≤ mostNumber
+
+-- .. of these sizes: what the loop of a sync requires, and keeps
+pub record Ready (ticks : ℕ) (wk l tr : List ℕ) (z : Sizes) : Type 0 where
+  pub quiet : Quiet ticks (store wk l tr)
+  pub sizes : z ≡ sizesOf (table wk tr)
 
 -- the two tests of the entry check
 record Passes (st : Store) : Type 0 where
@@ -71,7 +77,12 @@ clocks-agree wk l tr t e =
     let q = eqb (clockOf l) (clockOf wk) in
     eqb-true _ _ (and-left q _ (and-right k _ e))
 
--- a step noted: refusals 1 and 2 pass again
+-- a step noted leaves the sizes
+noted-sizes : (st : Store) (x : Stepped) → Steady (sizesOf (tableOf st)) st x → sizesOf (tableOf (noted x .store)) ≡ sizesOf (tableOf st)
+unfolding sizesOf
+noted-sizes st x s = rw (place-long (x .store .transient) (sizesOf (tableOf st)) (x .place .phase) (x .place .slot), s .notes .head .long, s .working .slots, s .working .width)
+
+-- .. and refusals 1 and 2 pass again
 module _ (st : Store) (x : Stepped) (ok : entryCheck st ≡ Accepted) (s : Steady (sizesOf (tableOf st)) st x) (within : x .place .slot < slotsOf (st .working)) (c : ℕ)
     (clock-w : clockOf (x .store .working) ≡ c) (clock-l : clockOf (x .store .persistent) ≡ c) (lo : 2 ≤ c) (none : (u : ℕ) → u < sizesOf (tableOf st) .t → openEpoch (st .transient) u ≡ 0) where
   abbrev tr : List ℕ
@@ -81,8 +92,7 @@ module _ (st : Store) (x : Stepped) (ok : entryCheck st ≡ Accepted) (s : Stead
   long = place-long (x .store .transient) (sizesOf (tableOf st)) _ _ ∙ s .notes .head .long
 
   threads-is : sizesOf (tableOf (noted x .store)) .t ≡ sizesOf (tableOf st) .t
-  unfolding sizesOf
-  threads-is = rw (long, s .working .slots)
+  threads-is = ap (λ z. z .t) (noted-sizes st x s)
 
   -- the place alone was written
   slots-is : note slotsAt tr ≡ note slotsAt (st .transient)
@@ -172,6 +182,50 @@ module _ (k : ℕ) (st : Store) (q : Quiet (suc k) st) where
 
   pub advance-quiet : Onward k st
   advance-quiet = onward-from (next-kept st (q .entry) .clocked)
+
+  quiet-on : advance st .reply ≡ WentOn → Quiet (suc k) (advance st .store)
+  quiet-on e = go advance-quiet
+    where
+      go : Onward k st → Quiet (suc k) (advance st .store)
+      go (went a x) = x
+      go (ticked a x) = let y : _≡_ {A = ℕ} 0 1 = cc in absurd (omega arith)
+
+  quiet-tick : advance st .reply ≡ Ticked → Quiet k (advance st .store)
+  quiet-tick e = go advance-quiet
+    where
+      go : Onward k st → Quiet k (advance st .store)
+      go (went a x) = let y : _≡_ {A = ℕ} 0 1 = cc in absurd (omega arith)
+      go (ticked a x) = x
+
+  sizes-kept : sizesOf (tableOf (advance st .store)) ≡ sizesOf (tableOf st)
+  sizes-kept = rw next-is (noted-sizes st (nextStep st) (next-kept st (q .entry) .steady))
+
+-- ---- the same of the sizes that the call has read once
+module _ {ticks : ℕ} {wk l tr : List ℕ} {z : Sizes} (y : Ready ticks wk l tr z) where
+  pub ready-entered : EnteredWith wk l tr z
+  ready-entered = sized-with (entry-with wk l tr (y .quiet .entry)) (y .sizes)
+
+  pub ready-advance : advanceSized z (store wk l tr) ≡ advance (store wk l tr)
+  ready-advance = rw (advance-is (store wk l tr), y .quiet .entry, y .sizes)
+
+module _ {ticks : ℕ} {wk l tr : List ℕ} {z : Sizes} (y : Ready ticks wk l tr z) (h : 0 < ticks) where
+  some : suc (ticks - 1) ≡ ticks
+  some = omega arith
+
+  quiet : Quiet (suc (ticks - 1)) (store wk l tr)
+  quiet = rw some (y .quiet)
+
+  module _ {r : Advance} {wk′ l′ tr′ : List ℕ} (e : outcome r wk′ l′ tr′ ≡ advance (store wk l tr)) where
+    ready-sizes : z ≡ sizesOf (table wk′ tr′)
+    ready-sizes = y .sizes ∙ sym (rw (← e) at (sizes-kept (ticks - 1) (store wk l tr) quiet))
+
+    pub ready-on : r ≡ WentOn → Ready ticks wk′ l′ tr′ z
+    ready-on q =
+        let on : Quiet (suc (ticks - 1)) (store wk′ l′ tr′) = rw (← e) at (quiet-on (ticks - 1) (store wk l tr) quiet) q in
+        record { quiet = rw some at on; sizes = ready-sizes }
+
+    pub ready-tick : r ≡ Ticked → Ready (ticks - 1) wk′ l′ tr′ z
+    ready-tick q = record { quiet = rw (← e) at (quiet-tick (ticks - 1) (store wk l tr) quiet) q; sizes = ready-sizes }
 
 -- the place is one of the table
 pub quiet-place : {ticks : ℕ} {st : Store} → Quiet ticks st → note placeAt (st .transient) < slotsOf (st .working)

@@ -9,11 +9,12 @@ use transient::sizes::Sizes;
 ghost use mathlib.Core.Path.{_≡_};
 ghost use Prim.Native.Nat.{_*_};
 ghost use Rattle.image.specs.Layout.{slotsOf};
-ghost use Rattle.transient.specs.Store.{store, table, sizesOf, outcome};
-ghost use Rattle.transient.specs.Requires.{Entered, EnteredWith};
+ghost use Rattle.transient.specs.Store.{store, outcome};
+ghost use Rattle.transient.specs.Requires.{Entered};
 ghost use Rattle.advance.specs.Stages.{mostLines};
 ghost use Rattle.sync.specs.Sync.{syncCheck, syncFrom, sync};
 ghost use Rattle.sync.specs.Stages.{readyCheck};
+ghost use Rattle.sync.specs.Quiet.{Ready};
 
 // Refusals 14 and 15.
 fn check_ready(working: &[u32], transient: &[u32], z: Sizes) -> Check
@@ -41,14 +42,15 @@ fn check(working: &[u32], persistent: &[u32], transient: &[u32]) -> Check
     }
 }
 
-fn sync_lines(working: &mut [u32], persistent: &mut [u32], transient: &mut [u32]) -> Sync
-    requires { ⌜ EnteredWith (now working) (now persistent) (now transient) (sizesOf (table (now working) (now transient))) ⌝ }
+// What the entry check found holds after each line too, so that it is made once.
+fn sync_lines(working: &mut [u32], persistent: &mut [u32], transient: &mut [u32], z: Sizes) -> Sync
+    requires { ⌜ Ready 2 (now working) (now persistent) (now transient) z ⌝ }
     ensures { λ r. ⌜ outcome r (now (working .exit)) (now (persistent .exit)) (now (transient .exit)) ≡ syncFrom (2 * mostLines (slotsOf (now (working .entry)))) 2 0 (store (now (working .entry)) (now (persistent .entry)) (now (transient .entry))) ⌝ }
 {
     let mut ticks: usize = 2;
     let mut lines = 0;
     while 0 < ticks {
-        match advance::advance(working, persistent, transient) {
+        match advance::advance_sized(working, persistent, transient, z) {
             Advance::Declined(r) => return Sync::Declined(r),
             Advance::WentOn => {}
             Advance::Ticked => ticks -= 1,
@@ -64,6 +66,9 @@ pub fn sync(working: &mut [u32], persistent: &mut [u32], transient: &mut [u32]) 
 {
     match check(working, persistent, transient) {
         Check::Refused(r) => Sync::Declined(r),
-        Check::Accepted => sync_lines(working, persistent, transient),
+        Check::Accepted => {
+            let z = transient::sizes::read_sizes(working, transient);
+            sync_lines(working, persistent, transient, z)
+        }
     }
 }

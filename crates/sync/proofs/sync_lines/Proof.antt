@@ -8,10 +8,10 @@ use Rattle.sync.proofs.sync_lines.Statement.{statement}
 use Rattle.sync.proofs.sync_lines.Tie as tie
 
 abbrev Inv-loop : tie.InvT-loop
-Inv-loop working₀ persistent₀ transient₀ ticks₀ lines₀ working persistent transient ticks lines = Syncing working₀ persistent₀ transient₀ ticks lines working persistent transient
+Inv-loop working₀ persistent₀ transient₀ z ticks₀ lines₀ working persistent transient ticks lines = Syncing z working₀ persistent₀ transient₀ ticks lines working persistent transient
 
 abbrev μ-loop : tie.MeasureT-loop
-μ-loop working₀ persistent₀ transient₀ ticks₀ lines₀ working persistent transient ticks lines = budget (table working transient) ticks
+μ-loop working₀ persistent₀ transient₀ z ticks₀ lines₀ working persistent transient ticks lines = budget (table working transient) ticks
 
 pub sync-lines-spec : {M : Type 1} → statement M
 sync-lines-spec =
