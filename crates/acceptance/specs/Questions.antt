@@ -12,15 +12,9 @@ use Rattle.image.specs.Bytes.{wordsOf}
 use Rattle.survival.specs.Survivors.{survivesOn}
 use Rattle.acceptance.specs.Accept.{imageCheck}
 
-unfoldable pub clockAnswer : List ℕ → ℕ
-clockAnswer l = byCheck (imageCheck l) declinedNumber (clockOf l)
-
 -- 02, No. 3: "the server counts jobs alone"
 unfoldable pub jobCount : List ℕ → ℕ → ℕ
 jobCount l n = count (survivesOn l n jobsBoard) n
-
-unfoldable pub survivorsAnswer : List ℕ → ℕ
-survivorsAnswer l = byCheck (imageCheck l) declinedNumber (jobCount l (slotsOf l))
 
 -- "A byte count that fits no image is refused with 1": no whole words, or more than the largest image has
 unfoldable pub bytesOk : ℕ → Bool

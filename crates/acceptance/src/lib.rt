@@ -1,88 +1,19 @@
 // What recovery refuses in an image: refusals 1 to 4.
+pub mod bytes;
+pub mod marks;
 pub mod names;
 pub mod questions;
-pub mod versions;
 
-use image::header::Header;
+use crate::marks::Verdict;
 use reply::Check;
 use reply::Refusal;
 ghost use mathlib.Core.Path.{_≡_};
-ghost use Rattle.image.specs.Layout.{header};
-ghost use Rattle.image.specs.Requires.{HeaderFits, Sized};
-ghost use Rattle.survival.specs.Requires.{Headers, SlotMarked, AllMarked};
-ghost use Rattle.acceptance.specs.Accept.{inRange, proper, imageCheck};
-ghost use Rattle.acceptance.specs.Requires.{headCheck, nameless, slotsCheck, allProper, someNameless};
-
-fn in_range(h: Header, c: u32) -> bool
-    ensures { λ r. ⌜ r ≡ inRange c h ⌝ }
-{
-    if Header::DELETE < h.kind {
-        return false;
-    }
-    if h.epoch < 2 {
-        return false;
-    }
-    if c < h.epoch {
-        return false;
-    }
-    if image::shape::MOST_NUMBER < h.uid {
-        return false;
-    }
-    h.board <= Header::QUEUE
-}
-
-fn proper_at(img: &[u32], n: usize, c: u32, s: usize) -> bool
-    requires { ⌜ HeaderFits (now img) n s ⌝ }
-    ensures { λ r. ⌜ r ≡ proper c (header (now (img .entry)) s) ⌝ }
-{
-    let h = image::header::header_at(img, n, s);
-    if in_range(h, c) {
-        return true;
-    }
-    image::header::has_zero(h)
-}
-
-fn all_proper(img: &[u32], n: usize) -> bool
-    requires { ⌜ Headers (now img) n ⌝ }
-    ensures { λ r. ⌜ r ≡ allProper (now (img .entry)) n ⌝ }
-{
-    let c = image::shape::clock(img);
-    let mut s = 0;
-    while s < n {
-        if proper_at(img, n, c, s) {
-            s += 1;
-        } else {
-            return false;
-        }
-    }
-    true
-}
-
-fn nameless_at(img: &[u32], flags: &[bool; 1024], n: usize, w: usize, s: usize) -> bool
-    requires { ⌜ SlotMarked (now img) n w s (now flags) ⌝ }
-    ensures { λ r. ⌜ r ≡ nameless (now (img .entry)) n w s ⌝ }
-{
-    if flags[s] {
-        let name = image::name::name_at(img, n, w, s);
-        image::name::bad_name(name)
-    } else {
-        false
-    }
-}
-
-fn some_nameless(img: &[u32], flags: &[bool; 1024], n: usize, w: usize) -> bool
-    requires { ⌜ AllMarked (now img) n w (now flags) ⌝ }
-    ensures { λ r. ⌜ r ≡ someNameless (now (img .entry)) n w ⌝ }
-{
-    let mut s = 0;
-    while s < n {
-        if nameless_at(img, flags, n, w, s) {
-            return true;
-        }
-        s += 1;
-    }
-    false
-}
+ghost use Rattle.image.specs.Requires.{Sized};
+ghost use Rattle.survival.specs.Requires.{Marked};
+ghost use Rattle.survival.specs.Rivals.{Flags};
+ghost use Rattle.acceptance.specs.Accept.{imageCheck};
+ghost use Rattle.acceptance.specs.Requires.{headCheck, slotsCheck};
+ghost use Rattle.acceptance.specs.Checking.{decided, CheckRoom, NamesLeft, Checked, SlotsFine};
 
 // Refusals 1 and 2.
 pub fn check_head(img: &[u32]) -> Check
@@ -99,33 +30,89 @@ pub fn check_head(img: &[u32]) -> Check
     }
 }
 
-// Refusals 3 and 4, with the survivors' flags.
-pub fn check_slots(img: &[u32], flags: &[bool; 1024], n: usize, w: usize) -> Check
-    requires { ⌜ AllMarked (now img) n w (now flags) ⌝ }
+// After both passes: was a version found twice in the first, and what did the second find?
+pub fn decide(twice: bool, v: Verdict) -> Check
+    ensures { λ r. ⌜ r ≡ decided twice v ⌝ }
+{
+    if crate::marks::is_bad(v) {
+        return Check::Refused(Refusal::BadSlot);
+    }
+    if crate::marks::or_twice(twice, v) {
+        return Check::Refused(Refusal::Duplicate);
+    }
+    Check::Accepted
+}
+
+// The second pass.
+fn check_names(
+    img: &[u32],
+    l: &mut [u32],
+    flags: &[bool; 1024],
+    m: usize,
+    n: usize,
+    w: usize,
+    twice: bool,
+) -> Check
+    requires { ⌜ NamesLeft (now img) n w m (now l) (now flags) twice ⌝ }
     ensures { λ r. ⌜ r ≡ slotsCheck (now (img .entry)) n w ⌝ }
 {
-    if all_proper(img, n) {
-        if some_nameless(img, flags, n, w) {
-            return Check::Refused(Refusal::BadSlot);
-        }
-        if versions::version_twice(img, n) {
-            return Check::Refused(Refusal::Duplicate);
-        }
-        if names::name_twice(img, flags, n, w) {
-            return Check::Refused(Refusal::Duplicate);
-        }
-        Check::Accepted
-    } else {
-        Check::Refused(Refusal::BadSlot)
+    chains::clear(l, m);
+    decide(twice, names::names(img, l, flags, m, n, w))
+}
+
+// Both passes, in the memory lent for m slots.
+fn check_in(
+    img: &[u32],
+    l: &mut [u32],
+    flags: &mut [bool; 1024],
+    m: usize,
+    n: usize,
+    w: usize,
+) -> Check
+    requires { ⌜ CheckRoom (now img) n w m (now l) (now flags) ⌝ }
+    ensures { λ r. ⌜ Checked (now (img .entry)) n w r (now (flags .exit)) ⌝ }
+{
+    let v = marks::judge(img, l, flags, m, n);
+    if marks::is_bad(v) {
+        return Check::Refused(Refusal::BadSlot);
     }
+    check_names(img, l, flags, m, n, w, marks::or_twice(false, v))
+}
+
+// Refusals 3 and 4; of an image that is accepted, the flags say which slots survive. A small board takes less memory, which is cleared sooner.
+pub fn check_slots(img: &[u32], flags: &mut [bool; 1024], n: usize, w: usize) -> Check
+    requires { ⌜ Sized (now img) n w ⌝ }
+    requires { ⌜ Flags (now flags) ⌝ }
+    ensures { λ r. ⌜ Checked (now (img .entry)) n w r (now (flags .exit)) ⌝ }
+{
+    if n <= 16 {
+        let mut l = [0u32; 64];
+        return check_in(img, &mut l, flags, 16, n, w);
+    }
+    if n <= 128 {
+        let mut l = [0u32; 512];
+        return check_in(img, &mut l, flags, 128, n, w);
+    }
+    let mut l = [0u32; 4096];
+    check_in(img, &mut l, flags, 1024, n, w)
+}
+
+// Which slots of an accepted image survive.
+pub fn survivors(img: &[u32], n: usize, w: usize) -> [bool; 1024]
+    requires { ⌜ SlotsFine (now img) n w ⌝ }
+    ensures { λ r. ⌜ Marked (now (img .entry)) n r ⌝ }
+{
+    let mut flags = [false; 1024];
+    check_slots(img, &mut flags, n, w);
+    flags
 }
 
 fn check_sized(img: &[u32], n: usize, w: usize) -> Check
     requires { ⌜ Sized (now img) n w ⌝ }
     ensures { λ r. ⌜ r ≡ slotsCheck (now (img .entry)) n w ⌝ }
 {
-    let flags = survival::survivors(img, n);
-    check_slots(img, &flags, n, w)
+    let mut flags = [false; 1024];
+    check_slots(img, &mut flags, n, w)
 }
 
 // An image alone: refusals 1 to 4.

@@ -1,119 +1,62 @@
-// Two survivors of one name. A survivor is held only against the slots of the chain of its key.
+// The second pass over an image's slots: each survivor's name is judged, and held against those of the survivors before it.
+use crate::marks::Verdict;
 use image::name::Name;
-ghost use mathlib.Core.Path.{_≡_};
-ghost use Rattle.search.specs.Some.{anyOf};
-ghost use Rattle.image.specs.Layout.{keyAt};
-ghost use Rattle.chains.specs.Chains.{Linked};
-ghost use Rattle.survival.specs.Requires.{SlotMarked, AllMarked};
-ghost use Rattle.acceptance.specs.Accept.{survivesAs, nameBelow};
-ghost use Rattle.acceptance.specs.Requires.{KeysUnlinked, KeysRoom, KeyChains, KeysAt, NameOf, nameTwice};
+ghost use Rattle.acceptance.specs.Naming.{Names, NamesMarked, NamesRoom, NamedSlot, NamedAt, Named};
 
-// The slots by their keys, each linked to the next one below of the same spot.
-fn link_keys(img: &[u32], heads: &mut [u32], below: &mut [u32], n: usize, w: usize)
-    requires { ⌜ KeysUnlinked (now img) n w (now heads) (now below) ⌝ }
-    ensures { λ _. ⌜ Linked (keyAt (now (img .entry)) n w) n n (now (heads .exit)) (now (below .exit)) ⌝ }
+// One survivor, after `s` slots.
+pub fn name_slot(l: &mut [u32], m: usize, s: usize, name: Name) -> Verdict
+    requires { ⌜ Names m s (now l) ⌝ }
+    ensures { λ r. ⌜ NamedSlot m (now (l .entry)) s name (now (l .exit)) r ⌝ }
 {
-    let mut s = 0;
-    while s < n {
-        let key = image::contents::key_at(img, n, w, s);
-        chains::link(heads, below, n, s, key);
-        s += 1;
+    if image::name::bad_name(name) {
+        return Verdict::Bad;
     }
+    let twice = chains::paired(l, m, s, name.key, name.board);
+    chains::link(l, m, s, name.key, name.board);
+    crate::marks::verdict_of(twice)
 }
 
-// Does slot `t` survive as `name`?
-fn survives_as(img: &[u32], flags: &[bool; 1024], n: usize, w: usize, name: Name, t: usize) -> bool
-    requires { ⌜ SlotMarked (now img) n w t (now flags) ⌝ }
-    ensures { λ r. ⌜ r ≡ survivesAs (now (img .entry)) n w name t ⌝ }
-{
-    if image::name::named_at(img, n, w, t, name) {
-        flags[t]
-    } else {
-        false
-    }
-}
-
-fn survives_below(
+// One slot, which survives or not.
+fn name_marked(
     img: &[u32],
+    l: &mut [u32],
     flags: &[bool; 1024],
-    below: &[u32],
-    n: usize,
-    w: usize,
-    name: Name,
-    s: usize,
-) -> bool
-    requires { ⌜ NameOf (now img) n w s name (now flags) (now below) ⌝ }
-    ensures { λ r. ⌜ r ≡ anyOf (survivesAs (now (img .entry)) n w name) s ⌝ }
-{
-    let mut k = image::shape::wide(below[s]);
-    while k != 0 {
-        if survives_as(img, flags, n, w, name, k - 1) {
-            return true;
-        }
-        k = image::shape::wide(below[k - 1]);
-    }
-    false
-}
-
-fn name_below(
-    img: &[u32],
-    flags: &[bool; 1024],
-    below: &[u32],
+    m: usize,
     n: usize,
     w: usize,
     s: usize,
-) -> bool
-    requires { ⌜ KeysAt (now img) n w s (now flags) (now below) ⌝ }
-    ensures { λ r. ⌜ r ≡ nameBelow (now (img .entry)) n w s ⌝ }
+) -> Verdict
+    requires { ⌜ NamesMarked (now img) n w m s (now l) (now flags) ⌝ }
+    ensures { λ r. ⌜ NamedAt (now (img .entry)) n w m (now (l .entry)) s (now (l .exit)) r ⌝ }
 {
     if flags[s] {
-        let name = image::name::name_at(img, n, w, s);
-        survives_below(img, flags, below, n, w, name, s)
-    } else {
-        false
+        return name_slot(l, m, s, image::name::name_at(img, n, w, s));
     }
+    chains::skip(l, m, s);
+    Verdict::Once
 }
 
-fn name_chained(img: &[u32], flags: &[bool; 1024], below: &[u32], n: usize, w: usize) -> bool
-    requires { ⌜ KeyChains (now img) n w (now flags) (now below) ⌝ }
-    ensures { λ r. ⌜ r ≡ nameTwice (now (img .entry)) n w ⌝ }
-{
-    let mut s = 0;
-    while s < n {
-        if name_below(img, flags, below, n, w, s) {
-            return true;
-        }
-        s += 1;
-    }
-    false
-}
-
-fn name_twice_in(
+// All slots of an image.
+pub fn names(
     img: &[u32],
+    l: &mut [u32],
     flags: &[bool; 1024],
-    heads: &mut [u32],
-    below: &mut [u32],
+    m: usize,
     n: usize,
     w: usize,
-) -> bool
-    requires { ⌜ KeysRoom (now img) n w (now flags) (now heads) (now below) ⌝ }
-    ensures { λ r. ⌜ r ≡ nameTwice (now (img .entry)) n w ⌝ }
+) -> Verdict
+    requires { ⌜ NamesRoom (now img) n w m (now l) (now flags) ⌝ }
+    ensures { λ r. ⌜ Named (now (img .entry)) n w m (now (l .exit)) r ⌝ }
 {
-    link_keys(img, heads, below, n, w);
-    name_chained(img, flags, below, n, w)
-}
-
-pub fn name_twice(img: &[u32], flags: &[bool; 1024], n: usize, w: usize) -> bool
-    requires { ⌜ AllMarked (now img) n w (now flags) ⌝ }
-    ensures { λ r. ⌜ r ≡ nameTwice (now (img .entry)) n w ⌝ }
-{
-    if n <= 64 {
-        let mut heads = [0u32; 64];
-        let mut below = [0u32; 64];
-        name_twice_in(img, flags, &mut heads, &mut below, n, w)
-    } else {
-        let mut heads = [0u32; 1024];
-        let mut below = [0u32; 1024];
-        name_twice_in(img, flags, &mut heads, &mut below, n, w)
+    let mut twice = false;
+    let mut s = 0;
+    while s < n {
+        let v = name_marked(img, l, flags, m, n, w, s);
+        if crate::marks::is_bad(v) {
+            return Verdict::Bad;
+        }
+        twice = crate::marks::or_twice(twice, v);
+        s += 1;
     }
+    crate::marks::verdict_of(twice)
 }

@@ -1,22 +1,14 @@
 -- The ways out of the exported calls.
-use Prim.Native.Nat.{ℕ, _≤_, _<_, _/_}
-use mathlib.Core.Path.{_≡_, ap, _∙_}
+use Prim.Native.Nat.{ℕ, _≤_, _<_}
+use mathlib.Core.Path.{_≡_}
 use mathlib.Core.Bool.{Bool, true, false}
 use mathlib.Core.List.{List}
-use lib.ListN.{length, take}
 use borrow.Author.Tests.{le-leb, lt-leb}
-use Rattle.reply.specs.declared.Refusal.the-variants.{BadSizes}
-use Rattle.reply.specs.Refusals.{declinedNumber}
-use Rattle.image.specs.Bytes.{wordsOf}
 use Rattle.image.specs.Layout.{sizesOk, imageWords}
-use Rattle.image.specs.Line.{stored}
 use Rattle.image.specs.Laws.{sizes-true}
 use Rattle.transient.specs.Layout.{transientWords}
 use Rattle.transient.specs.Requires.{InReach}
 use Rattle.transient.specs.Store.{Outcome, outcome}
-use Rattle.acceptance.specs.Questions.{bytesOk, clockAnswer, survivorsAnswer, clockOfBytes, survivorsOfBytes}
-use Rattle.acceptance.specs.Requires.{Buffered}
-use Rattle.acceptance.specs.Laws.{prefix-is, decoding}
 use Rattle.board.specs.Calls.{numbered, imageLength, transientLength}
 
 -- ---- a reply as its number: of any call, and by the reply that it gave
@@ -58,29 +50,4 @@ module _ (slots threads : ℕ) {n t : ℕ} {s : Bool} (ne : n ≡ slots) (te : t
 pub notes-reach : (n t : ℕ) {s : Bool} → s ≡ sizesOk n 2 → s ≡ true → t ≤ 16 → InReach n t
 notes-reach n t e f h = record { slots-hi = sizes-true n 2 e f .slots-hi; threads-hi = h }
 
--- ---- the questions
-module _ (bytes words : List ℕ) {words′ : List ℕ} (z : Buffered bytes words) (d : words′ ≡ stored words 0 (wordsOf bytes) (length bytes / 4)) where
-  pub clock-of : {r : ℕ} → r ≡ clockAnswer (take (length bytes / 4) words′) → r ≡ clockAnswer (wordsOf bytes)
-  clock-of e = e ∙ ap clockAnswer (prefix-is bytes words z d)
-
-  pub survivors-of : {r : ℕ} → r ≡ survivorsAnswer (take (length bytes / 4) words′) → r ≡ survivorsAnswer (wordsOf bytes)
-  survivors-of e = e ∙ ap survivorsAnswer (prefix-is bytes words z d)
-
-module _ (bytes : List ℕ) {b : Bool} {r : ℕ} (e : b ≡ bytesOk (length bytes)) where
-  pub clock-bytes : b ≡ true → r ≡ clockAnswer (wordsOf bytes) → r ≡ clockOfBytes bytes
-  unfolding clockOfBytes clockAnswer
-  clock-bytes t h = rw (← e, t) h
-
-  pub clock-refused : b ≡ false → r ≡ declinedNumber BadSizes → r ≡ clockOfBytes bytes
-  unfolding clockOfBytes
-  clock-refused t h = rw (← e, t) h
-
-  pub survivors-bytes : b ≡ true → r ≡ survivorsAnswer (wordsOf bytes) → r ≡ survivorsOfBytes bytes
-  unfolding survivorsOfBytes survivorsAnswer
-  survivors-bytes t h = rw (← e, t) h
-
-  pub survivors-refused : b ≡ false → r ≡ declinedNumber BadSizes → r ≡ survivorsOfBytes bytes
-  unfolding survivorsOfBytes
-  survivors-refused t h = rw (← e, t) h
-
-pub ruleset laws = (number-is, number-of, sizes-true, image-length, image-none, notes-none, notes-few, notes-many, notes-length, notes-reach, decoding, clock-of, survivors-of, clock-bytes, clock-refused, survivors-bytes, survivors-refused)
+pub ruleset laws = (number-is, number-of, sizes-true, image-length, image-none, notes-none, notes-few, notes-many, notes-length, notes-reach)

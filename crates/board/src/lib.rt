@@ -5,3 +5,4 @@ pub mod on_queue;
 pub mod persist;
 pub mod questions;
 pub mod recover;
+pub mod version;

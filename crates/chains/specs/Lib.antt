@@ -1,5 +1,5 @@
 pub mod Chains
 pub mod Requires
 pub mod Linking
-pub mod Chased
+pub mod Walking
 pub mod Exits

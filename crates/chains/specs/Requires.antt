@@ -1,57 +1,69 @@
--- What functions require of the words that hold the chains, and how these words are made.
-use Prim.Native.Nat.{ℕ, _%_, _≤_, _<_}
+-- What functions require of the memory that holds the chains, and how it is made.
+use Prim.Native.Nat.{ℕ, _+_, _*_, _-_, _/_, _%_, _≤_, _<_}
 use mathlib.Core.Path.{_≡_}
+use mathlib.Core.Logic.{_≢_}
 use mathlib.Core.List.{List}
-use mathlib.Core.Logic.{⊎-elim}
-use lib.ListN.{length, getD, replicate, length-replicate, getD-replicate}
-use lib.Dec.{leb}
-use borrow.Author.Tests.{le-leb}
-use native.Mathlib.Nat.{mod-lt}
+use lib.ListN.{replicate, length-replicate, getD-replicate}
+use native.Mathlib.Nat.{mod-lt, mul-lt-mul-of-pos-right, div-lt-iff-lt-mul}
 use native.Mathlib.Omega.{arith}
-use Rattle.search.specs.Bools.{cases}
 use Rattle.image.specs.Layout.{mostSlots}
-use Rattle.chains.specs.Chains.{spot}
+use Rattle.chains.specs.Chains.{spot, headOf, numberOf, Lent, Blank, Linked, Kin}
 
--- where the head of a chain is read
-pub record Spots (n : ℕ) (heads : List ℕ) : Type 0 where
-  pub spots : (x : ℕ) → spot n x < length heads
+pub record Spots (m : ℕ) : Type 0 where
+  pub some : 0 < m
+  pub few : m ≤ mostSlots
 
--- where slot s is linked
-pub record LinkPlace (n s : ℕ) (heads below : List ℕ) : Type 0 where
-  pub few : s < mostSlots
-  pub spots : (x : ℕ) → spot n x < length heads
-  pub slots : s < length below
+-- one slot of it
+pub record At (m s : ℕ) (l : List ℕ) : Type 0 where
+  pub lent : Lent m l
+  pub within : s < m
 
--- words for the chains of n slots, no slot linked
-pub record Room (n : ℕ) (heads below : List ℕ) : Type 0 where
-  pub spots : (x : ℕ) → spot n x < length heads
-  pub slots : n ≤ length below
-  pub clear : (x : ℕ) → getD heads (spot n x) 0 ≡ 0
+-- a number looked for among the slots linked so far
+pub record AllLinked (m i x : ℕ) (l : List ℕ) : Type 0 where
+  pub linked : Linked m i l
+  pub some : x ≢ 0
+
+-- .. from its highest place on
+pub record FromKin (m i k x : ℕ) (l : List ℕ) : Type 0 where
+  pub all : AllLinked m i x l
+  pub kin : Kin l x i k
+
+-- .. from a place of its chain on
+pub record OnChain (m i k x : ℕ) (l : List ℕ) : Type 0 where
+  pub all : AllLinked m i x l
+  pub low : k ≤ i
+  pub linked : 0 < k → numberOf l (k - 1) ≢ 0
+  pub at : 0 < k → spot m (numberOf l (k - 1)) ≡ spot m x
+
+-- .. from a place of the number on
+pub record OnKin (m i k x : ℕ) (l : List ℕ) : Type 0 where
+  pub all : AllLinked m i x l
+  pub low : k ≤ i
+  pub here : 0 < k
+  pub at : numberOf l (k - 1) ≡ x
 
 -- ---- how they are made
-spot-low : (n x : ℕ) → n ≤ 64 → spot n x < 64
+pub spot-low : (m x : ℕ) → 0 < m → spot m x < m
 unfolding spot
-spot-low n x h = let z : x % 61 < 61 = mod-lt x (omega arith) in rw (le-leb n 64 h) (omega arith)
+spot-low m x h =
+    let f = (x + x / 8192) * 2654435769 in
+    let z : f % 4294967296 < 4294967296 = mod-lt f (omega arith) in
+    let y : f % 4294967296 * m < 4294967296 * m = mul-lt-mul-of-pos-right z h in
+    div-lt-iff-lt-mul {k = 4294967296} {x = f % 4294967296 * m} {y = m} (omega arith) .1 (omega arith)
 
-spot-top : (n x : ℕ) → spot n x < 1024
-unfolding spot
-spot-top n x =
-    let y : x % 61 < 61 = mod-lt x (omega arith) in
-    let z : x % 1021 < 1021 = mod-lt x (omega arith) in
-    ⊎-elim (λ t. rw t (omega arith)) (λ f. rw f (omega arith)) (cases (leb n 64))
+pub from-kin : {m i k x : ℕ} {l : List ℕ} → AllLinked m i x l → Kin l x i k → FromKin m i k x l
+from-kin z e = record { all = z; kin = e }
 
-pub room-small : {n : ℕ} → n ≤ 64 → Room n (replicate 64 0) (replicate 64 0)
-room-small {n} h =
+pub spots-of : {m : ℕ} {l : List ℕ} → Lent m l → Spots m
+spots-of z = record { some = z .some; few = z .few }
+
+pub spots-at : {m s : ℕ} {l : List ℕ} → At m s l → Spots m
+spots-at z = spots-of (z .lent)
+
+pub blank-new : (m : ℕ) → 0 < m → m ≤ mostSlots → Blank m (replicate (4 * m) 0)
+unfolding headOf
+blank-new m some few =
     record {
-      spots = λ x. omega (arith, spot-low n x h, length-replicate {A = ℕ} 64 0);
-      slots = omega (arith, length-replicate {A = ℕ} 64 0);
-      clear = λ x. getD-replicate 64 (spot n x) 0 0 (spot-low n x h);
-    }
-
-pub room-large : {n : ℕ} → n ≤ mostSlots → Room n (replicate 1024 0) (replicate 1024 0)
-room-large {n} h =
-    record {
-      spots = λ x. omega (arith, spot-top n x, length-replicate {A = ℕ} 1024 0);
-      slots = omega (arith, length-replicate {A = ℕ} 1024 0);
-      clear = λ x. getD-replicate 1024 (spot n x) 0 0 (spot-top n x);
+      lent = record { some = some; few = few; long = length-replicate {A = ℕ} (4 * m) 0 };
+      empty = λ b h. getD-replicate (4 * m) (4 * b) 0 0 (omega arith);
     }

@@ -16,6 +16,7 @@ use Rattle.classes.specs.declared.HeadCount.{HeadCount}
 use Rattle.classes.specs.Classes.{headCount, total}
 use Rattle.headcount.specs.Printed.{countLine, imageCount, printedCount}
 use Rattle.headcount.specs.Requires.{earlier, later}
+use Rattle.acceptance.specs.Checking.{fine-sized, image-fine}
 
 -- ---- two figures
 module _ (x : ℕ) {before mid : List ℕ} {k : ℕ} (p : Appended before 0 (ascii "free " ++ decimal x) mid k) where
@@ -91,4 +92,4 @@ module _ (bytes : List ℕ) {words : List ℕ} {r : Input} {before after : List 
   unfolding printedCount
   bytes-refused e s = printed-refusal bytes imageCount t e s
 
-pub ruleset laws = (earlier-room, earlier-put, later-room, later-put, line-later, line-total, line-end, line-is, takings, image-counted, bytes-counted, bytes-refused)
+pub ruleset laws = (fine-sized, image-fine, earlier-room, earlier-put, later-room, later-put, line-later, line-total, line-end, line-is, takings, image-counted, bytes-counted, bytes-refused)

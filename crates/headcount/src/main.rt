@@ -45,7 +45,8 @@ fn count_image(out: &mut [u8], img: &[u32]) -> usize
     ensures { λ r. ⌜ Spelt (now (out .entry)) (imageCount (now (img .entry))) (now (out .exit)) r ⌝ }
 {
     let n = image::shape::wide(img[0]);
-    let flags = survival::survivors(img, n);
+    let w = image::shape::wide(img[1]);
+    let flags = acceptance::survivors(img, n, w);
     count_line(out, classes::head_count(img, &flags, n))
 }
 

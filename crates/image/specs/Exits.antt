@@ -17,7 +17,8 @@ use Rattle.image.specs.Layout.{mostNumber, queueBoard, headerAt, content
 use Rattle.image.specs.Line.{headerLine, contentsLine, clockLine, stored, storeLine}
 use Rattle.image.specs.Name.{nameOf, nameAt, sameName, misnamed}
 use Rattle.image.specs.Requires.{kindAt, epochAt, uidAt, boardAt, InRange, Slot, SlotOf, Slots, SlotLine, slot, header-fits, slot-of}
-use Rattle.image.specs.Bytes.{wordsOf, Byte, InWords, Decodes, words-at}
+use Rattle.image.specs.Bytes.{wordsOf, Byte, InWords, Decodes, words-length, words-at}
+use Rattle.image.specs.InPlace.{place-word, place-kind, place-key, place-slot, place-header, place-name, head-word}
 use Rattle.image.specs.Laws.{area-top, sizes-true, shaped, length-contents, part-is}
 use Rattle.image.specs.Storing.{storings}
 
@@ -186,5 +187,18 @@ word-made bytes k i z a b c d = rw (a .same, b .same, c .same, d .same) (words-a
 
 pub in-words : {bytes words : List ℕ} {k i : ℕ} → Decodes bytes words k → i < k → InWords bytes k i
 in-words z h = record { whole = z .whole; below = h }
+
+-- ---- the shape of bytes
+pub place-short : (bytes : List ℕ) (k : ℕ) → length bytes ≡ 4 * k → k < 3 → false ≡ shapeOk (wordsOf bytes)
+place-short bytes k whole h = shape-short (wordsOf bytes) (rw (words-length k bytes whole) h)
+
+module _ (bytes : List ℕ) {a b n w : ℕ} {r : Bool} (p : a ≡ getD (wordsOf bytes) 0 0) (q : n ≡ a) (u : b ≡ getD (wordsOf bytes) 1 0) (v : w ≡ b) (ok : r ≡ sizesOk n w) where
+  pub place-sizes : r ≡ false → false ≡ shapeOk (wordsOf bytes)
+  place-sizes f = shape-sizes (wordsOf bytes) (q ∙ p) (v ∙ u) ok f
+
+  pub place-fits : (k : ℕ) {j : ℕ} → length bytes ≡ 4 * k → r ≡ true → j ≡ imageWords n w → eqb k j ≡ shapeOk (wordsOf bytes)
+  place-fits k whole t e = rw (← words-length k bytes whole) (shape-long (wordsOf bytes) (q ∙ p) (v ∙ u) ok t e)
+
+pub ruleset places = (place-word, place-kind, place-key, place-slot, place-header, place-name, head-word, place-short, place-sizes, place-fits)
 
 pub ruleset laws = (tests, storings, slot, header-fits, slot-of, header-is, header-stored, contents-fits, contents-top, key-in, key-is, line-room, line-slot, contents-stored, part-end, part-slot, part-line, part-copied, name-made, named-board, named-other, bad-zero, bad-entry, bad-none, clock-stored, area-fits, whole-fits, sizes-true, shape-short, shape-sizes, shape-long, in-words, word-made)

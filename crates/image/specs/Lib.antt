@@ -6,5 +6,6 @@ pub mod Laws
 pub mod Whole
 pub mod Torn
 pub mod Bytes
+pub mod InPlace
 pub mod Storing
 pub mod Exits

@@ -19,6 +19,7 @@ use Rattle.image.specs.Laws.{length-contents, part-is}
 use Rattle.survival.specs.Survivors.{survivor, survivorCount}
 use Rattle.survival.specs.Requires.{SlotMarked, AllMarked, marks}
 use Rattle.survival.specs.Laws.{flag-is}
+use Rattle.acceptance.specs.Checking.{fine-sized, image-fine}
 use Rattle.console.specs.declared.Input.{Input}
 use Rattle.console.specs.declared.Input.the-variants.{Image, Refused}
 use Rattle.console.specs.Console.{refusedLine}
@@ -190,4 +191,4 @@ module _ (bytes : List ℕ) {words : List ℕ} {r : Input} {before after : List 
 
 pub ruleset slots = (slot, slot-of, slot-header, marks, slot-end, slot-room, figures-is, end-entry, end-job, end-room, slot-is, text-line, text-none, listing-start, listing-room, listing-next, listing-end)
 
-pub ruleset laws = (marks, takings, head-room, head-put, head-end, head-is, lines-room, listing-is, image-listed, bytes-listed, bytes-refused)
+pub ruleset laws = (fine-sized, image-fine, marks, takings, head-room, head-put, head-end, head-is, lines-room, listing-is, image-listed, bytes-listed, bytes-refused)

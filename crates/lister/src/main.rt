@@ -8,9 +8,10 @@ ghost use lib.ListN.{length};
 ghost use Rattle.text.specs.Putting.{Appended, Spelt};
 ghost use Rattle.reply.specs.declared.Check.the-variants.{Accepted};
 ghost use Rattle.image.specs.Layout.{header, contents};
-ghost use Rattle.image.specs.Requires.{Sized, Slot};
+ghost use Rattle.image.specs.Requires.{Slot};
 ghost use Rattle.survival.specs.Requires.{SlotMarked, AllMarked};
 ghost use Rattle.acceptance.specs.Accept.{imageCheck};
+ghost use Rattle.acceptance.specs.Checking.{SlotsFine};
 ghost use Rattle.lister.specs.Printed.{headLine, slotLine, slotLines, imageListing, printedListing};
 ghost use Rattle.lister.specs.Requires.{headFigures, slotFigures, lineEnd, slotText, listing};
 
@@ -104,11 +105,11 @@ fn put_survivors(
 }
 
 fn list_sized(out: &mut [u8], img: &[u32], n: usize, w: usize) -> usize
-    requires { ⌜ Sized (now img) n w ⌝ }
+    requires { ⌜ SlotsFine (now img) n w ⌝ }
     requires { ⌜ 262208 ≤ length (now out) ⌝ }
     ensures { λ r. ⌜ Appended (now (out .entry)) 0 (listing (now (img .entry)) n w) (now (out .exit)) r ⌝ }
 {
-    let flags = survival::survivors(img, n);
+    let flags = acceptance::survivors(img, n, w);
     let survivors = survival::survivor_count(img, &flags, n);
     let k = put_head(out, image::shape::clock(img), survivors);
     put_survivors(out, k, img, &flags, n, w)

@@ -9,10 +9,11 @@ use lib.Dec.{leb, eqb}
 use mir.Val.{Fits}
 use mir.Syntax.{w32}
 use borrow.Author.Tests.{lt-ltb, le-ltb, eq-eqb, ne-eqb, eqb-true, leb-true, not-false}
+use native.Mathlib.Numerals.{add-one}
 use native.Mathlib.Omega.{arith}
 use Rattle.search.specs.Bools.{cases, and-left, and-right, tests}
-use Rattle.search.specs.First.{firstOf, found-first, loops as firsts}
-use Rattle.search.specs.Largest.{largest, raised, largest-top, loops as climbs}
+use Rattle.search.specs.First.{whereFound, firstOf, Sought, sought-start, sought-next, found-hit, found-end, found-first, loops as firsts}
+use Rattle.search.specs.Largest.{largest-top, raised, Climbing, climbing-start, climbing-next, climbing-end}
 use Rattle.search.specs.declared.Found.{Found}
 use Rattle.search.specs.declared.Found.the-variants.{At, Nothing}
 use Rattle.reply.specs.declared.Check.{Check}
@@ -21,26 +22,28 @@ use Rattle.reply.specs.declared.Refusal.{Refusal}
 use Rattle.reply.specs.declared.Refusal.the-variants.{BadSizes, BadClock}
 use Rattle.reply.specs.Refusals.{refuse, byCheck, not-refused}
 use Rattle.image.specs.declared.header.Header.{Header}
-use Rattle.image.specs.Layout.{mostSlots, mostNumber, queueBoard, isBlank, isPayload, header, keyAt, slotsOf, widthOf, clockOf, shapeOk, clockOk, freeHeader}
+use Rattle.image.specs.Layout.{mostSlots, mostNumber, queueBoard, isBlank, hasZero, isPayload, header, keyAt, slotsOf, widthOf, clockOf, shapeOk, clockOk, freeHeader}
 use Rattle.image.specs.Line.{headerLine, stored, storeLine}
 use Rattle.image.specs.declared.name.Name.{Name}
 use Rattle.image.specs.Name.{nameAt, misnamed, name-is, misnamed-false}
 use Rattle.image.specs.Whole.{payload-filled}
-use Rattle.image.specs.Requires.{HeaderFits, Slot}
+use Rattle.image.specs.Requires.{HeaderFits, Sized, Slot}
 use Rattle.image.specs.Laws.{shaped, stored-whole}
 use Rattle.transient.specs.Layout.{threadsOf, threadsOk, blank}
 use Rattle.transient.specs.Store.{store, Outcome, outcome}
 use Rattle.transient.specs.Requires.{Blanking}
-use Rattle.survival.specs.Survivors.{survivor, survivesOn}
-use Rattle.survival.specs.Requires.{keptAnti, Headers, Marked, AllMarked, SlotMarked, FlagAt, headers-of, header-in, slot-marked, flag-at, flag-header, flag-of, marks}
+use Rattle.survival.specs.Survivors.{kept, survivor, survivesOn}
+use Rattle.survival.specs.Requires.{keptAnti, Marked, SlotMarked, FlagAt, headers-of, sized-marked, all-marked, header-in, header-of, slot-marked, flag-at, flag-header, flag-of, marks}
 use Rattle.survival.specs.Laws.{flag-is}
 use Rattle.acceptance.specs.Requires.{headCheck, nameless, slotsCheck}
 use Rattle.acceptance.specs.Laws.{image-is}
+use Rattle.acceptance.specs.Checking.{Checked, flags-new, checked-same}
 use Rattle.acceptance.specs.Sound.{Sound, sound, filled-proper}
+use Rattle.recovery.specs.declared.Numbers.{Numbers}
 use Rattle.recovery.specs.declared.Recovery.{Recovery}
 use Rattle.recovery.specs.declared.Recovery.the-variants.{WentOn, Done, Declined}
 use Rattle.recovery.specs.Recover.{antiAt, stale, nextFreed, nextUid, nextOrder, lengthsFit, recoverCheck, freeing, recover}
-use Rattle.recovery.specs.Requires.{uidOf, recoverEntryCheck, finished, Uids, Orders, Finishing, Judged, recoverSized}
+use Rattle.recovery.specs.Requires.{uidOf, recoverEntryCheck, antiUpTo, finished, numbers, numbersOf, Numbered, Finishing, Judged, recoverSized}
 
 -- ---- what is freed next
 pub anti-is : (l : List ℕ) (s : ℕ) {c : ℕ} {r : Bool} → c ≡ clockOf l → r ≡ keptAnti c (header l s) → r ≡ antiAt l s
@@ -73,14 +76,64 @@ module _ (l : List ℕ) (n s : ℕ) {d : Bool} (de : d ≡ not (survivor l n s))
       unfolding stale
       stale-yes y = rw (← at, ← bl, f, ← de, e, ← k, y)
 
-module _ (l : List ℕ) (n : ℕ) {f : Found} (st : f ≡ firstOf (stale l n) n) where
-  pub freed-stale : {s : ℕ} → f ≡ At s → At s ≡ nextFreed l n
-  unfolding nextFreed
-  freed-stale e = rw (← st, e)
+module _ (l : List ℕ) (s : ℕ) {f : Found} where
+  pub anti-before : {t : ℕ} → f ≡ At t → At t ≡ antiUpTo l s f
+  unfolding antiUpTo
+  anti-before e = rw e
 
-  pub freed-anti : {g : Found} → f ≡ Nothing → g ≡ firstOf (antiAt l) n → g ≡ nextFreed l n
-  unfolding nextFreed
-  freed-anti e h = rw (← st, e) h
+  pub anti-here : {a : Bool} → f ≡ Nothing → a ≡ antiAt l s → a ≡ true → At s ≡ antiUpTo l s f
+  unfolding antiUpTo
+  anti-here e q t = rw (e, ← q, t)
+
+  pub anti-none : {a : Bool} → f ≡ Nothing → a ≡ antiAt l s → a ≡ false → Nothing ≡ antiUpTo l s f
+  unfolding antiUpTo
+  anti-none e q t = rw (e, ← q, t)
+
+-- the walk has passed s of n slots, none of them stale, and has the first kept DELETE of these
+pub record Freeing (l : List ℕ) (n s : ℕ) (anti : Found) : Type 0 where
+  pub sought : Sought (stale l n) n s
+  pub anti-is : anti ≡ firstOf (antiAt l) s
+
+pub freeing-start : (l : List ℕ) (n : ℕ) → Freeing l n 0 Nothing
+unfolding firstOf
+freeing-start l n = record { sought = sought-start (stale l n) n; anti-is = refl }
+
+found-same : (f : Found) → whereFound f At Nothing ≡ f
+found-same (At t) = refl
+found-same Nothing = refl
+
+-- a survivor is no DELETE
+survivor-anti : (l : List ℕ) (n s : ℕ) → survivor l n s ≡ true → antiAt l s ≡ false
+unfolding survivor isPayload antiAt
+survivor-anti l n s e =
+    let h = header l s in
+    let top = leb-true (h .kind) 2 (and-right (not (hasZero h)) _ (and-left (not (hasZero h) && leb (h .kind) 2) _ e)) in
+    rw (ne-eqb (h .kind) 3 (λ q. omega arith)) (and-false (kept (clockOf l) h))
+
+module _ {l : List ℕ} {n s : ℕ} {anti : Found} (z : Freeing l n s anti) (h : s < n) {d : Bool} (e : d ≡ not (survivor l n s)) where
+  pub freeing-survives : d ≡ false → Freeing l n (s + 1) anti
+  unfolding firstOf
+  freeing-survives f =
+      let v : survivor l n s ≡ true = not-false (survivor l n s) (sym e ∙ f) in
+      record {
+        sought = sought-next (z .sought) h (stale-survives l n s e f) refl;
+        anti-is = rw (add-one s, ← z .anti-is, survivor-anti l n s v) (sym (found-same anti));
+      }
+
+  module _ {r : Bool} (t : d ≡ true) (st : r ≡ stale l n s) where
+    pub freeing-stale : r ≡ true → At s ≡ nextFreed l n
+    unfolding nextFreed
+    freeing-stale y = rw (← found-hit (z .sought) h st y)
+
+    pub freeing-on : {anti′ : Found} → r ≡ false → anti′ ≡ antiUpTo l s anti → Freeing l n (s + 1) anti′
+    unfolding firstOf antiUpTo
+    freeing-on f q = record { sought = sought-next (z .sought) h st f; anti-is = rw (add-one s, ← z .anti-is) q }
+
+pub freeing-end : {l : List ℕ} {n s : ℕ} {anti : Found} → Freeing l n s anti → n ≤ s → anti ≡ nextFreed l n
+unfolding nextFreed
+freeing-end {l} {n} {s} z h =
+    let e : s ≡ n = omega (arith, z .sought .low) in
+    rw (← found-end (z .sought) h) (z .anti-is ∙ (rw e))
 
 pub freed-below : (l : List ℕ) (n s : ℕ) → nextFreed l n ≡ At s → s < n
 unfolding nextFreed
@@ -108,13 +161,6 @@ module _ (l : List ℕ) (n s b : ℕ) (flags : List Bool) (z : FlagAt l n s flag
     raise-level u =
         let e : uidOf l s ≡ h .uid = ap (λ (x : Header). x .uid) (sym at) in
         rw (flag-is (z .marked .flagged) (z .within) t, e, le-ltb b (h .uid) u)
-
-pub uid-fits : (l : List ℕ) (n : ℕ) (flags : List Bool) {b : ℕ} → Uids l n flags → b ≡ largest (survivor l n) (uidOf l) n → Fits w32 (b + 1)
-uid-fits l n flags z e = omega (arith, largest-top (survivor l n) (uidOf l) mostNumber n (z .uids), e)
-
-pub uid-is : (l : List ℕ) (n : ℕ) {b : ℕ} → b ≡ largest (survivor l n) (uidOf l) n → b + 1 ≡ nextUid l n
-unfolding nextUid
-uid-is l n e = rw e
 
 -- ---- the next order number
 module _ (l : List ℕ) (n w s : ℕ) {name : Name} (at : name ≡ nameAt l n w s) where
@@ -145,38 +191,58 @@ module _ (l : List ℕ) (n w s b : ℕ) (flags : List Bool) (z : SlotMarked l n 
       order-level u =
           rw (flag-is (z .flagged) (z .slot .within) t, board-read l n w s at, eq-eqb (name .board) queueBoard q, key-read l n w s at, le-ltb b (name .key) u)
 
-pub order-fits : (l : List ℕ) (n w : ℕ) (flags : List Bool) {b : ℕ} → Orders l n w flags → b ≡ largest (survivesOn l n queueBoard) (keyAt l n w) n → Fits w32 (b + 1)
-order-fits l n w flags z e = omega (arith, largest-top (survivesOn l n queueBoard) (keyAt l n w) mostNumber n (z .orders), e)
+-- ---- both, in one walk
+pub record Numbering (l : List ℕ) (n w : ℕ) (s uid order : ℕ) : Type 0 where
+  pub uids : Climbing (survivor l n) (uidOf l) n s uid
+  pub orders : Climbing (survivesOn l n queueBoard) (keyAt l n w) n s order
 
-pub order-is : (l : List ℕ) (n w : ℕ) {b : ℕ} → b ≡ largest (survivesOn l n queueBoard) (keyAt l n w) n → b + 1 ≡ nextOrder l n w
-unfolding nextOrder
-order-is l n w e = rw e
+pub numbering-start : (l : List ℕ) (n w : ℕ) → Numbering l n w 0 0 0
+numbering-start l n w = record { uids = climbing-start (survivor l n) (uidOf l) n; orders = climbing-start (survivesOn l n queueBoard) (keyAt l n w) n }
 
-pub order-slot : {l : List ℕ} {n w s : ℕ} {flags : List Bool} → Orders l n w flags → s < n → SlotMarked l n w s flags
-order-slot z h = slot-marked (z .marked) h
+module _ {l : List ℕ} {n w s uid order : ℕ} (z : Numbering l n w s uid order) where
+  pub numbering-next : {uid′ order′ : ℕ} → s < n → uid′ ≡ raised (survivor l n) (uidOf l) s uid → order′ ≡ raised (survivesOn l n queueBoard) (keyAt l n w) s order
+      → Numbering l n w (s + 1) uid′ order′
+  numbering-next h p q = record { uids = climbing-next (z .uids) h p; orders = climbing-next (z .orders) h q }
+
+  module _ {flags : List Bool} (y : Numbered l n w flags) (h : n ≤ s) where
+    pub uid-fits : Fits w32 (uid + 1)
+    uid-fits = omega (arith, largest-top (survivor l n) (uidOf l) mostNumber n (y .uids), climbing-end (z .uids) h)
+
+    pub order-fits : Fits w32 (order + 1)
+    order-fits = omega (arith, largest-top (survivesOn l n queueBoard) (keyAt l n w) mostNumber n (y .orders), climbing-end (z .orders) h)
+
+  pub numbers-are : n ≤ s → numbers (uid + 1) (order + 1) ≡ numbersOf l n w
+  unfolding nextUid nextOrder
+  numbers-are h = rw (climbing-end (z .uids) h, climbing-end (z .orders) h)
+
+pub numbered-slot : {l : List ℕ} {n w s : ℕ} {flags : List Bool} → Numbered l n w flags → s < n → SlotMarked l n w s flags
+numbered-slot z h = slot-marked (z .marked) h
+
+pub numbered-flag : {l : List ℕ} {n w s : ℕ} {flags : List Bool} → Numbered l n w flags → s < n → FlagAt l n s flags
+numbered-flag z h = flag-at (all-marked (z .marked)) h
 
 pub order-name : {l : List ℕ} {n w s : ℕ} {flags : List Bool} → SlotMarked l n w s flags → Slot l n w s
 order-name z = z .slot
 
 -- ---- the last call
 pub finish-marked : {wk l t : List ℕ} {flags : List Bool} {n w : ℕ} → Finishing wk l t flags n w → Marked l n flags
-finish-marked z = z .uids .marked
+finish-marked z = all-marked (z .numbers .marked)
 
 pub finish-header : (wk l t : List ℕ) (flags : List Bool) {n w s : ℕ} {f : Found} → Finishing wk l t flags n w → f ≡ nextFreed l n → f ≡ At s → HeaderFits l n s
-finish-header wk l t flags {n} {w} {s} z e a = header-in (z .uids .marked .headers) (freed-below l n s (sym e ∙ a))
+finish-header wk l t flags {n} {w} {s} z e a = header-in (headers-of (z .numbers .marked .sized)) (freed-below l n s (sym e ∙ a))
 
 pub finish-slots : {wk l t : List ℕ} {flags : List Bool} {n w : ℕ} → Finishing wk l t flags n w → n < 2 ^ 32
-finish-slots z = let h = z .uids .marked .headers .slots-hi in omega arith
+finish-slots z = omega (arith, z .numbers .marked .sized .sizes .slots-hi)
 
 pub finish-blank : {wk l t : List ℕ} {flags : List Bool} {n w m : ℕ} → Finishing wk l t flags n w → m ≡ n → Blanking t m
 finish-blank z e = record { some = omega (arith, z .some); room = z .notes }
 
-pub finish-done : (wk l t : List ℕ) (n w : ℕ) {u o m : ℕ} {wk′ t′ : List ℕ} → length wk ≡ length l → u ≡ nextUid l n → o ≡ nextOrder l n w
-    → wk′ ≡ stored wk 0 l (length l) → m ≡ n → t′ ≡ blank (length t) m u o → store wk′ l t′ ≡ finished l (length t) n w
+pub finish-done : (wk l t : List ℕ) (n w : ℕ) {r : Numbers} {m : ℕ} {wk′ t′ : List ℕ} → length wk ≡ length l → r ≡ numbersOf l n w
+    → wk′ ≡ stored wk 0 l (length l) → m ≡ n → t′ ≡ blank (length t) m (r .uid) (r .order) → store wk′ l t′ ≡ finished l (length t) n w
 unfolding finished
-finish-done wk l t n w long e o k m b =
+finish-done wk l t n w long e k m b =
     let copy : stored wk 0 l (length l) ≡ l = ap (stored wk 0 l) (sym long) ∙ stored-whole wk l (sym long) in
-    rw (k, copy, b, e, o, m)
+    rw (k, copy, b, e, m)
 
 module _ (wk l t : List ℕ) (n w : ℕ) {f : Found} (fr : f ≡ nextFreed l n) where
   pub free-on : {s : ℕ} {h : Header} {l′ : List ℕ} → f ≡ At s → h ≡ freeHeader → l′ ≡ storeLine l (headerLine s h) → outcome WentOn wk l′ t ≡ freeing (nextFreed l n) (store wk l t) n w
@@ -238,11 +304,8 @@ judged wk l t e a p q = rw (p, q) (entry-passed wk l t e a)
 pub judged-long : (wk l t : List ℕ) (j : ℕ) {k : Check} → k ≡ recoverEntryCheck (length wk) l (length t) → k ≡ Accepted → j < 3 → j < length l
 judged-long wk l t j e a h = let z = entry-passed wk l t e a .sized in omega arith
 
-pub judged-headers : {wk l t : List ℕ} {n w : ℕ} → Judged wk l t n w → Headers l n
-judged-headers z = headers-of (z .sized)
-
-pub judged-marked : {wk l t : List ℕ} {flags : List Bool} {n w : ℕ} → Judged wk l t n w → Marked l n flags → AllMarked l n w flags
-judged-marked z m = record { sized = z .sized; flagged = m .flagged }
+pub judged-sized : {wk l t : List ℕ} {n w : ℕ} → Judged wk l t n w → Sized l n w
+judged-sized z = z .sized
 
 -- a survivor has its uid in range
 uid-top : {l : List ℕ} {n w i : ℕ} → Sound l n w → i < n → survivor l n i ≡ true → uidOf l i ≤ mostNumber
@@ -260,17 +323,15 @@ order-top {l} {n} {w} {i} s h v =
     let named = rw (name-is l n w i) at (misnamed-false (nameAt l n w i) good) in
     named .top on
 
-pub judged-finishing : {wk l t : List ℕ} {flags : List Bool} {n w : ℕ} {k : Check} → Judged wk l t n w → Marked l n flags
-    → k ≡ slotsCheck l n w → k ≡ Accepted → Finishing wk l t flags n w
-judged-finishing {wk} {l} {t} {flags} {n} {w} z m c a =
-    let s : Sound l n w = sound l n w (sym c ∙ a) in
+pub judged-finishing : {wk l t : List ℕ} {flags : List Bool} {n w : ℕ} {k : Check} → Judged wk l t n w → Checked l n w k flags → k ≡ Accepted
+    → Finishing wk l t flags n w
+judged-finishing {wk} {l} {t} {flags} {n} {w} z c a =
+    let s : Sound l n w = sound l n w (sym (c .same) ∙ a) in
+    let m : Marked l n flags = c .marked a in
     record {
-      uids = record {
-        marked = m;
+      numbers = record {
+        marked = sized-marked (z .sized) m;
         uids = λ i h v. uid-top s h v;
-      };
-      orders = record {
-        marked = judged-marked z m;
         orders = λ i h v. order-top s h v;
       };
       some = omega (arith, z .sized .sizes .slots-lo);
@@ -305,4 +366,7 @@ module _ (wk l t : List ℕ) {k : Check} (c : k ≡ recoverEntryCheck (length wk
   unfolding recover recoverSized
   recover-goes n w a p q h = rw (recover-is wk l t, ← c, a, ← p, ← q) h
 
-pub ruleset steps = (tests, firsts, marks, climbs, flag-at, flag-header, flag-of, anti-is, dies-not, dies-yes, stale-survives, stale-blank, stale-anti, stale-yes, freed-stale, freed-anti, raise-miss, raise-up, raise-level, uid-fits, uid-is, order-miss, order-job, order-up, order-level, order-fits, order-is, order-slot, order-name, finish-marked, finish-header, finish-slots, finish-blank, finish-done, free-on, free-done, entry-shape, entry-working, entry-threads, entry-head, entry-first, entry-slots, judged, judged-long, judged-marked, judged-headers, judged-finishing, step-declines, step-goes, recover-declines, recover-goes)
+-- the walk for what is freed next
+pub ruleset frees = (flag-at, flag-of, header-of, freeing-start, freeing-survives, freeing-stale, freeing-on, freeing-end)
+
+pub ruleset steps = (tests, firsts, marks, flag-at, flag-header, flag-of, anti-is, dies-not, dies-yes, stale-survives, stale-blank, stale-anti, stale-yes, anti-before, anti-here, anti-none, raise-miss, raise-up, raise-level, order-miss, order-job, order-up, order-level, order-name, numbering-start, numbering-next, uid-fits, order-fits, numbers-are, numbered-slot, numbered-flag, finish-marked, finish-header, finish-slots, finish-blank, finish-done, free-on, free-done, entry-shape, entry-working, entry-threads, entry-head, entry-first, entry-slots, judged, judged-long, judged-sized, flags-new, checked-same, judged-finishing, step-declines, step-goes, recover-declines, recover-goes)

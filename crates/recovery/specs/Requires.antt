@@ -1,9 +1,12 @@
 -- What functions inside require: uids and order numbers in range, and what refusals 1 and 2 of recover leave.
 use Prim.Native.Nat.{ℕ, _≤_, _<_}
 use mathlib.Core.Path.{_≡_}
-use mathlib.Core.Bool.{Bool, true, not}
+use mathlib.Core.Bool.{Bool, true, cond, not}
 use mathlib.Core.List.{List}
 use lib.ListN.{length}
+use Rattle.search.specs.declared.Found.{Found}
+use Rattle.search.specs.declared.Found.the-variants.{At, Nothing}
+use Rattle.search.specs.First.{whereFound}
 use Rattle.reply.specs.declared.Check.{Check}
 use Rattle.reply.specs.declared.Refusal.the-variants.{BadSizes}
 use Rattle.reply.specs.Refusals.{refuse}
@@ -12,9 +15,10 @@ use Rattle.image.specs.Requires.{Sized}
 use Rattle.transient.specs.Layout.{headWords, blank}
 use Rattle.transient.specs.Store.{Store, store, Outcome, afterCheck}
 use Rattle.survival.specs.Survivors.{survivor, survivesOn}
-use Rattle.survival.specs.Requires.{Marked, AllMarked}
+use Rattle.survival.specs.Requires.{AllMarked}
 use Rattle.acceptance.specs.Requires.{headCheck, slotsCheck}
-use Rattle.recovery.specs.Recover.{nextFreed, nextUid, nextOrder, lengthsFit, freeing}
+use Rattle.recovery.specs.Recover.{antiAt, nextFreed, nextUid, nextOrder, lengthsFit, freeing}
+use Rattle.recovery.specs.declared.Numbers.{Numbers}
 use Rattle.recovery.specs.declared.Recovery.{Recovery}
 use Rattle.recovery.specs.declared.Recovery.the-variants.{Declined}
 
@@ -25,18 +29,25 @@ uidOf l s = header l s .uid
 unfoldable pub recoverEntryCheck : ℕ → List ℕ → ℕ → Check
 recoverEntryCheck working l transient = refuse (not (lengthsFit working l transient)) BadSizes (headCheck l)
 
-pub record Uids (l : List ℕ) (n : ℕ) (flags : List Bool) : Type 0 where
-  pub marked : Marked l n flags
-  pub uids : (s : ℕ) → s < n → survivor l n s ≡ true → uidOf l s ≤ mostNumber
+-- the first kept DELETE up to slot s, after the first below it
+unfoldable pub antiUpTo : List ℕ → ℕ → Found → Found
+antiUpTo l s first = whereFound first At (cond (antiAt l s) (At s) Nothing)
 
-pub record Orders (l : List ℕ) (n w : ℕ) (flags : List Bool) : Type 0 where
+-- a survivor has its uid in range, one of the queue its order number
+pub record Numbered (l : List ℕ) (n w : ℕ) (flags : List Bool) : Type 0 where
   pub marked : AllMarked l n w flags
+  pub uids : (s : ℕ) → s < n → survivor l n s ≡ true → uidOf l s ≤ mostNumber
   pub orders : (s : ℕ) → s < n → survivesOn l n queueBoard s ≡ true → keyAt l n w s ≤ mostNumber
+
+abbrev pub numbers : ℕ → ℕ → Numbers
+numbers uid order = record { uid = uid; order = order }
+
+abbrev pub numbersOf : List ℕ → ℕ → ℕ → Numbers
+numbersOf l n w = numbers (nextUid l n) (nextOrder l n w)
 
 -- ---- the last call
 pub record Finishing (wk l t : List ℕ) (flags : List Bool) (n w : ℕ) : Type 0 where
-  pub uids : Uids l n flags
-  pub orders : Orders l n w flags
+  pub numbers : Numbered l n w flags
   pub some : 1 ≤ n
   pub same : length wk ≡ length l
   pub notes : headWords ≤ length t

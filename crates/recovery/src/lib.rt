@@ -6,14 +6,13 @@ use search::Found;
 ghost use mathlib.Core.Path.{_≡_};
 ghost use mathlib.Core.Bool.{not};
 ghost use lib.ListN.{length};
-ghost use Rattle.search.specs.First.{firstOf};
 ghost use Rattle.search.specs.Largest.{raised};
 ghost use Rattle.image.specs.Layout.{queueBoard, keyAt};
 ghost use Rattle.transient.specs.Store.{store, outcome};
 ghost use Rattle.survival.specs.Survivors.{survivor, survivesOn};
-ghost use Rattle.recovery.specs.Recover.{antiAt, stale, nextFreed, nextUid, nextOrder, freeing, recover};
-ghost use Rattle.survival.specs.Requires.{FlagAt, Headers, HeaderOf, Marked, SlotMarked};
-ghost use Rattle.recovery.specs.Requires.{uidOf, recoverEntryCheck, finished, Uids, Orders, Finishing, Judged, recoverSized};
+ghost use Rattle.recovery.specs.Recover.{antiAt, stale, nextFreed, freeing, recover};
+ghost use Rattle.survival.specs.Requires.{FlagAt, HeaderOf, Marked, SlotMarked};
+ghost use Rattle.recovery.specs.Requires.{uidOf, recoverEntryCheck, antiUpTo, finished, numbersOf, Numbered, Finishing, Judged, recoverSized};
 
 // One recover call's answer: "went on", "done", or a refusal.
 pub enum Recovery {
@@ -52,43 +51,42 @@ fn stale_at(img: &[u32], flags: &[bool; 1024], n: usize, s: usize) -> bool
     }
 }
 
-fn first_stale(img: &[u32], flags: &[bool; 1024], n: usize) -> Found
-    requires { ⌜ Marked (now img) n (now flags) ⌝ }
-    ensures { λ r. ⌜ r ≡ firstOf (stale (now (img .entry)) n) n ⌝ }
+// The first kept DELETE of those up to slot `s`, after the first of those below it.
+fn anti_up_to(img: &[u32], n: usize, s: usize, first: Found) -> Found
+    requires { ⌜ HeaderOf (now img) n s ⌝ }
+    ensures { λ r. ⌜ r ≡ antiUpTo (now (img .entry)) s first ⌝ }
 {
-    let mut s = 0;
-    while s < n {
-        if stale_at(img, flags, n, s) {
-            return Found::At(s);
+    match first {
+        Found::At(t) => Found::At(t),
+        Found::Nothing => {
+            if anti_at(img, n, s) {
+                return Found::At(s);
+            }
+            Found::Nothing
         }
-        s += 1;
     }
-    Found::Nothing
 }
 
-fn first_anti(img: &[u32], n: usize) -> Found
-    requires { ⌜ Headers (now img) n ⌝ }
-    ensures { λ r. ⌜ r ≡ firstOf (antiAt (now (img .entry))) n ⌝ }
-{
-    let mut s = 0;
-    while s < n {
-        if anti_at(img, n, s) {
-            return Found::At(s);
-        }
-        s += 1;
-    }
-    Found::Nothing
-}
-
-// The header to free next: those that nothing needs first, then the kept DELETEs, which cover payloads until these are gone.
+// The header to free next: those that nothing needs first, then the kept DELETEs, which cover payloads until these are gone. A survivor
+// is neither.
 fn next_freed(img: &[u32], flags: &[bool; 1024], n: usize) -> Found
     requires { ⌜ Marked (now img) n (now flags) ⌝ }
     ensures { λ r. ⌜ r ≡ nextFreed (now (img .entry)) n ⌝ }
 {
-    match first_stale(img, flags, n) {
-        Found::At(s) => Found::At(s),
-        Found::Nothing => first_anti(img, n),
+    let mut anti = Found::Nothing;
+    let mut s = 0;
+    while s < n {
+        if dies_at(img, flags, n, s) {
+            if stale_at(img, flags, n, s) {
+                return Found::At(s);
+            }
+            anti = anti_up_to(img, n, s, anti);
+            s += 1;
+        } else {
+            s += 1;
+        }
     }
+    anti
 }
 
 fn raise_uid(img: &[u32], flags: &[bool; 1024], n: usize, s: usize, best: u32) -> u32
@@ -101,19 +99,6 @@ fn raise_uid(img: &[u32], flags: &[bool; 1024], n: usize, s: usize, best: u32) -
     } else {
         best
     }
-}
-
-fn next_uid(img: &[u32], flags: &[bool; 1024], n: usize) -> u32
-    requires { ⌜ Uids (now img) n (now flags) ⌝ }
-    ensures { λ r. ⌜ r ≡ nextUid (now (img .entry)) n ⌝ }
-{
-    let mut best = 0;
-    let mut s = 0;
-    while s < n {
-        best = raise_uid(img, flags, n, s, best);
-        s += 1;
-    }
-    best + 1
 }
 
 fn raise_order(img: &[u32], flags: &[bool; 1024], n: usize, w: usize, s: usize, best: u32) -> u32
@@ -132,18 +117,28 @@ fn raise_order(img: &[u32], flags: &[bool; 1024], n: usize, w: usize, s: usize, 
     }
 }
 
-// One above the largest order number that survives; a job's key is none.
-fn next_order(img: &[u32], flags: &[bool; 1024], n: usize, w: usize) -> u32
-    requires { ⌜ Orders (now img) n w (now flags) ⌝ }
-    ensures { λ r. ⌜ r ≡ nextOrder (now (img .entry)) n w ⌝ }
+// The next uid and the next order number: each is one above the largest that survives, and a job's key is no order number.
+pub struct Numbers {
+    pub uid: u32,
+    pub order: u32,
+}
+
+fn next_numbers(img: &[u32], flags: &[bool; 1024], n: usize, w: usize) -> Numbers
+    requires { ⌜ Numbered (now img) n w (now flags) ⌝ }
+    ensures { λ r. ⌜ r ≡ numbersOf (now (img .entry)) n w ⌝ }
 {
-    let mut best = 0;
+    let mut uid = 0;
+    let mut order = 0;
     let mut s = 0;
     while s < n {
-        best = raise_order(img, flags, n, w, s, best);
+        uid = raise_uid(img, flags, n, s, uid);
+        order = raise_order(img, flags, n, w, s, order);
         s += 1;
     }
-    best + 1
+    Numbers {
+        uid: uid + 1,
+        order: order + 1,
+    }
 }
 
 // Nothing is left to free: working becomes a copy, and the notes are set.
@@ -158,10 +153,9 @@ fn finish(
     requires { ⌜ Finishing (now working) (now persistent) (now transient) (now flags) n w ⌝ }
     ensures { λ _. ⌜ store (now (working .exit)) (now (persistent .entry)) (now (transient .exit)) ≡ finished (now (persistent .entry)) (length (now (transient .entry))) n w ⌝ }
 {
-    let uid = next_uid(persistent, flags, n);
-    let order = next_order(persistent, flags, n, w);
+    let next = next_numbers(persistent, flags, n, w);
     image::contents::store_words(working, 0, persistent, persistent.len());
-    transient::notes::set_blank(transient, image::shape::narrow(n), uid, order);
+    transient::notes::set_blank(transient, image::shape::narrow(n), next.uid, next.order);
 }
 
 fn free_next(
@@ -216,8 +210,8 @@ fn recover_sized(
     requires { ⌜ Judged (now working) (now persistent) (now transient) n w ⌝ }
     ensures { λ r. ⌜ outcome r (now (working .exit)) (now (persistent .exit)) (now (transient .exit)) ≡ recoverSized (store (now (working .entry)) (now (persistent .entry)) (now (transient .entry))) n w ⌝ }
 {
-    let flags = survival::survivors(persistent, n);
-    match acceptance::check_slots(persistent, &flags, n, w) {
+    let mut flags = [false; 1024];
+    match acceptance::check_slots(persistent, &mut flags, n, w) {
         Check::Refused(r) => Recovery::Declined(r),
         Check::Accepted => free_next(working, persistent, transient, &flags, n, w),
     }

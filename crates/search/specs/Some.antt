@@ -1,12 +1,13 @@
 -- "Some" and "every" as tests over the indices below n. A loop for either is a search (`Sought`).
 use Prim.Native.Nat.{ℕ, _+_, _≤_, _<_}
 use mathlib.Core.Path.{_≡_, sym, ap, _∙_}
-use mathlib.Core.Bool.{Bool, true, false, not}
+use mathlib.Core.Bool.{Bool, true, false, not, _||_, or-true}
 use mathlib.Core.Logic.{⊎-elim}
 use lib.Dec.{ltb}
 use borrow.Author.Tests.{lt-ltb, le-ltb, ltb-true, ltb-false, not-false, not-true}
+use native.Mathlib.Nat.{eq-or-lt-of-le}
 use native.Mathlib.Omega.{arith}
-use Rattle.search.specs.Bools.{cases, never, not-is-true, not-is-false}
+use Rattle.search.specs.Bools.{cases, never, same-test, not-is-true, not-is-false}
 use Rattle.search.specs.First.{whereFound, firstOf, firstOf-same, first, first-of, first-at, first-before, Sought, sought-start, sought-next, sought-hit, sought-end}
 
 unfoldable pub anyOf : (ℕ → Bool) → ℕ → Bool
@@ -58,6 +59,25 @@ none-some p n h =
 pub some-same : (p q : ℕ → Bool) (n : ℕ) → ((s : ℕ) → s < n → p s ≡ q s) → anyOf p n ≡ anyOf q n
 unfolding anyOf
 some-same p q n h = rw (firstOf-same p q n h)
+
+-- one index more
+pub any-more : (p : ℕ → Bool) (i : ℕ) → anyOf p (i + 1) ≡ (anyOf p i || p i)
+any-more p i = same-test (anyOf p (i + 1)) (anyOf p i || p i) there back
+  where
+    there : anyOf p (i + 1) ≡ true → (anyOf p i || p i) ≡ true
+    there t =
+        let a = some-one p (i + 1) t in
+        ⊎-elim
+        (λ (e : a .at ≡ i). rw (← e, a .passes) (or-true (anyOf p (a .at))))
+        (λ (h : a .at < i). rw (some-at p i (a .at) h (a .passes)))
+        (eq-or-lt-of-le (omega (arith, a .below)))
+
+    back : (anyOf p i || p i) ≡ true → anyOf p (i + 1) ≡ true
+    back t =
+        ⊎-elim
+        (λ (y : anyOf p i ≡ true). let a = some-one p i y in some-at p (i + 1) (a .at) (omega (arith, a .below)) (a .passes))
+        (λ (n : anyOf p i ≡ false). let q : p i ≡ true = rw n at t in some-at p (i + 1) i (omega arith) q)
+        (cases (anyOf p i))
 
 -- a loop's two answers
 pub some-hit : {p : ℕ → Bool} {n i : ℕ} {r : Bool} → Sought p n i → i < n → r ≡ p i → r ≡ true → true ≡ anyOf p n

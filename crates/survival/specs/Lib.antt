@@ -1,5 +1,5 @@
 pub mod Survivors
 pub mod Requires
+pub mod Rivals
 pub mod Laws
-pub mod Flagging
 pub mod Exits

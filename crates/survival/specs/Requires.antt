@@ -1,17 +1,15 @@
--- What contracts inside are about: what is asked of a header; an image's headers, the survivors' flags beside it, and its slots chained by their uids.
+-- What contracts inside are about: what is asked of a header; an image's headers, and the survivors' flags beside it.
 use Prim.Native.Nat.{ℕ, _+_, _*_, _≤_, _<_}
 use mathlib.Core.Path.{_≡_}
 use mathlib.Core.Bool.{Bool, false, not, _&&_}
 use mathlib.Core.List.{List}
-use lib.ListN.{length, getD, replicate}
+use lib.ListN.{length, getD}
 use lib.Dec.{eqb}
 use native.Mathlib.Omega.{arith}
 use Rattle.search.specs.Some.{anyOf}
 use Rattle.image.specs.declared.header.Header.{Header}
-use Rattle.image.specs.Layout.{mostSlots, headerWords, isPayload, header}
+use Rattle.image.specs.Layout.{mostSlots, headerWords, isPayload}
 use Rattle.image.specs.Requires.{Sized, Slot, HeaderFits, slot}
-use Rattle.chains.specs.Chains.{Linked}
-use Rattle.chains.specs.Requires.{Room, room-small, room-large}
 use Rattle.survival.specs.Survivors.{kept, beats, survivor}
 
 -- an image's headers, and one of them
@@ -22,10 +20,6 @@ pub record Headers (l : List ℕ) (n : ℕ) : Type 0 where
 pub record HeaderOf (l : List ℕ) (n s : ℕ) : Type 0 where
   pub headers : Headers l n
   pub within : s < n
-
--- ---- what is asked of a header: does one of the table beat it, is it a kept DELETE?
-unfoldable pub beaten : ℕ → (ℕ → Header) → ℕ → Header → Bool
-beaten c hs n h = anyOf (λ t. beats c h (hs t)) n
 
 -- a kept slot of the table that none beats, and one that is a payload
 unfoldable pub wins : ℕ → (ℕ → Header) → ℕ → ℕ → Bool
@@ -59,22 +53,6 @@ pub record FlagAt (l : List ℕ) (n s : ℕ) (flags : List Bool) : Type 0 where
   pub marked : Marked l n flags
   pub within : s < n
 
--- ---- chains of uids: words for them, the slots linked, and one of these
-unfoldable pub uids : List ℕ → ℕ → ℕ
-uids l s = header l s .uid
-
-pub record UidsUnlinked (l : List ℕ) (n : ℕ) (heads below : List ℕ) : Type 0 where
-  pub headers : Headers l n
-  pub room : Room n heads below
-
-pub record UidsLinked (l : List ℕ) (n : ℕ) (heads below : List ℕ) : Type 0 where
-  pub headers : Headers l n
-  pub linked : Linked (uids l) n n heads below
-
-pub record UidsLinkedAt (l : List ℕ) (n s : ℕ) (heads below : List ℕ) : Type 0 where
-  pub chains : UidsLinked l n heads below
-  pub within : s < n
-
 -- ---- how they are made
 pub headers-of : {l : List ℕ} {n w : ℕ} → Sized l n w → Headers l n
 headers-of z = record { slots-hi = z .sizes .slots-hi; long = omega arith }
@@ -91,6 +69,9 @@ sized-marked z m = record { sized = z; flagged = m .flagged }
 pub all-headers : {l : List ℕ} {n w : ℕ} {flags : List Bool} → AllMarked l n w flags → Headers l n
 all-headers z = headers-of (z .sized)
 
+pub all-marked : {l : List ℕ} {n w : ℕ} {flags : List Bool} → AllMarked l n w flags → Marked l n flags
+all-marked z = record { headers = headers-of (z .sized); flagged = z .flagged }
+
 pub slot-marked : {l : List ℕ} {n w s : ℕ} {flags : List Bool} → AllMarked l n w flags → s < n → SlotMarked l n w s flags
 slot-marked z h = record { slot = slot (z .sized) h; flagged = z .flagged }
 
@@ -102,11 +83,5 @@ flag-header z = header-in (z .marked .headers) (z .within)
 
 pub flag-of : {l : List ℕ} {n s : ℕ} {flags : List Bool} → FlagAt l n s flags → HeaderOf l n s
 flag-of z = record { headers = z .marked .headers; within = z .within }
-
-pub uids-small : {l : List ℕ} {n : ℕ} → Headers l n → n ≤ 64 → UidsUnlinked l n (replicate 64 0) (replicate 64 0)
-uids-small z h = record { headers = z; room = room-small h }
-
-pub uids-large : {l : List ℕ} {n : ℕ} → Headers l n → UidsUnlinked l n (replicate 1024 0) (replicate 1024 0)
-uids-large z = record { headers = z; room = room-large (z .slots-hi) }
 
 pub ruleset marks = (headers-of, header-in, header-of, sized-marked, all-headers, slot-marked)

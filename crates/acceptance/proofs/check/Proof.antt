@@ -1,6 +1,6 @@
 -- `check`: each way out is a law.
 use borrow.Author.Needs.{needs}
-use Rattle.acceptance.specs.Exits.{answer-laws}
+use Rattle.acceptance.specs.Exits.{whole}
 use Rattle.acceptance.proofs.check.Statement.{statement}
 use Rattle.acceptance.proofs.check.Tie as tie
 
@@ -8,13 +8,13 @@ pub check-spec : {M : Type 1} → statement M
 check-spec =
     tie.close
     (tie.spec
-    (λ c κs. search (needs, answer-laws))
-    (λ c. search (needs, answer-laws))
-    (λ c. search (needs, answer-laws))
-    (λ c. search (needs, answer-laws))
-    (λ c κs. search (needs, answer-laws))
-    (λ c. search (needs, answer-laws))
-    (λ c κs. search (needs, answer-laws))
-    (λ c κs. search (needs, answer-laws))
-    (λ c. search (needs, answer-laws))
-    (λ c. search (needs, answer-laws)))
+    (λ c κs. search (needs, whole))
+    (λ c. search (needs, whole))
+    (λ c. search (needs, whole))
+    (λ c. search (needs, whole))
+    (λ c κs. search (needs, whole))
+    (λ c. search (needs, whole))
+    (λ c κs. search (needs, whole))
+    (λ c κs. search (needs, whole))
+    (λ c. search (needs, whole))
+    (λ c. search (needs, whole)))

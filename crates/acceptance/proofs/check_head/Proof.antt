@@ -1,6 +1,6 @@
 -- `check_head`: each way out is a law.
 use borrow.Author.Needs.{needs}
-use Rattle.acceptance.specs.Exits.{laws}
+use Rattle.acceptance.specs.Exits.{heads}
 use Rattle.acceptance.proofs.check_head.Statement.{statement}
 use Rattle.acceptance.proofs.check_head.Tie as tie
 
@@ -8,9 +8,9 @@ pub check-head-spec : {M : Type 1} → statement M
 check-head-spec =
     tie.close
     (tie.spec
-    (λ c κs. search (needs, laws))
-    (λ c κs. search (needs, laws))
-    (λ c κs. search (needs, laws))
-    (λ c. search (needs, laws))
-    (λ c. search (needs, laws))
-    (λ c. search (needs, laws)))
+    (λ c κs. search (needs, heads))
+    (λ c κs. search (needs, heads))
+    (λ c κs. search (needs, heads))
+    (λ c. search (needs, heads))
+    (λ c. search (needs, heads))
+    (λ c. search (needs, heads)))

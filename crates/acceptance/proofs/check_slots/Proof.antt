@@ -1,6 +1,6 @@
--- `check_slots`: each way out is a law.
+-- `check_slots`: memory by the number of slots.
 use borrow.Author.Needs.{needs}
-use Rattle.acceptance.specs.Exits.{laws}
+use Rattle.acceptance.specs.Checking.{checks}
 use Rattle.acceptance.proofs.check_slots.Statement.{statement}
 use Rattle.acceptance.proofs.check_slots.Tie as tie
 
@@ -8,12 +8,12 @@ pub check-slots-spec : {M : Type 1} → statement M
 check-slots-spec =
     tie.close
     (tie.spec
-    (λ c κs. search (needs, laws))
-    (λ c κs. search (needs, laws))
-    (λ c. search (needs, laws))
-    (λ c κs. search (needs, laws))
-    (λ c. search (needs, laws))
-    (λ c κs. search (needs, laws))
-    (λ c. search (needs, laws))
-    (λ c. search (needs, laws))
-    (λ c. search (needs, laws)))
+    (λ c. search (needs, checks))
+    (λ c κs. search (needs, checks))
+    (λ c. search (needs, checks))
+    (λ c. search (needs, checks))
+    (λ c κs. search (needs, checks))
+    (λ c. search (needs, checks))
+    (λ c. search (needs, checks))
+    (λ c κs. search (needs, checks))
+    (λ c. search (needs, checks)))

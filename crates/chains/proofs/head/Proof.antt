@@ -1,4 +1,4 @@
--- `head`: one way out.
+-- `head`: each need is a law.
 use borrow.Author.Needs.{needs}
 use Rattle.chains.specs.Exits.{laws}
 use Rattle.chains.proofs.head.Statement.{statement}
@@ -9,6 +9,7 @@ head-spec =
     tie.close
     (tie.spec
     (λ c κs. search (needs, laws))
+    (λ c. search (needs, laws))
     (λ c. search (needs, laws))
     (λ c. search (needs, laws))
     (λ c κs. search (needs, laws))

@@ -1,4 +1,4 @@
--- `link`: one way out.
+-- `link`: each need is a law.
 use borrow.Author.Needs.{needs}
 use Rattle.chains.specs.Exits.{laws}
 use Rattle.chains.proofs.link.Statement.{statement}
@@ -9,6 +9,17 @@ link-spec =
     tie.close
     (tie.spec
     (λ c κs. search (needs, laws))
+    (λ c. search (needs, laws))
+    (λ c. search (needs, laws))
+    (λ c. search (needs, laws))
+    (λ c. search (needs, laws))
+    (λ c. search (needs, laws))
+    (λ c. search (needs, laws))
+    (λ c. search (needs, laws))
+    (λ c. search (needs, laws))
+    (λ c. search (needs, laws))
+    (λ c. search (needs, laws))
+    (λ c. search (needs, laws))
     (λ c. search (needs, laws))
     (λ c. search (needs, laws))
     (λ c. search (needs, laws))

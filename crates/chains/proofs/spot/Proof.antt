@@ -1,4 +1,4 @@
--- `spot`: each way out is a law.
+-- `spot`: each need is a law.
 use borrow.Author.Needs.{needs}
 use Rattle.chains.specs.Exits.{laws}
 use Rattle.chains.proofs.spot.Statement.{statement}
@@ -9,6 +9,7 @@ spot-spec =
     tie.close
     (tie.spec
     (λ c κs. search (needs, laws))
-    (λ c κs. search (needs, laws))
+    (λ c. search (needs, laws))
+    (λ c. search (needs, laws))
     (λ c. search (needs, laws))
     (λ c. search (needs, laws)))

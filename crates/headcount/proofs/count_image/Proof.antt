@@ -10,6 +10,8 @@ count-image-spec =
     (tie.spec
     (λ c. search (needs, laws))
     (λ c κs. search (needs, laws))
+    (λ c. search (needs, laws))
+    (λ c κs. search (needs, laws))
     (λ c κs. search (needs, laws))
     (λ c κs. search (needs, laws))
     (λ c κs. search (needs, laws))

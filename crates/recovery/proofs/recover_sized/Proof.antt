@@ -1,6 +1,6 @@
 -- `recover_sized`: each way out is a law.
 use borrow.Author.Needs.{needs}
-use Rattle.recovery.specs.Exits.{steps, judged-finishing}
+use Rattle.recovery.specs.Exits.{steps}
 use Rattle.recovery.proofs.recover_sized.Statement.{statement}
 use Rattle.recovery.proofs.recover_sized.Tie as tie
 
@@ -9,10 +9,9 @@ recover-sized-spec =
     tie.close
     (tie.spec
     (λ c κs. search (needs, steps))
+    (λ c. search (needs, steps))
+    (λ c. search (needs, steps))
     (λ c κs. search (needs, steps))
-    (λ c. search (needs, steps))
-    (λ c. search (needs, steps))
-    (λ c κs. judged-finishing (c .before .before .before .before .before .before .before .before .before .before .before .before .before .before .pre) (c .before .before .before .before .before .before .before .before .before .survivors .ensures) (c .before .before .before .before .before .before .check-slots .ensures) (c .before .before .before .before .enum-told .given .1))
     (λ c. search (needs, steps))
     (λ c. search (needs, steps))
     (λ c. search (needs, steps))

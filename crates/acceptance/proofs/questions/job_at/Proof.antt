@@ -1,6 +1,6 @@
 -- `job_at`: each way out is a law.
 use borrow.Author.Needs.{needs}
-use Rattle.acceptance.specs.Exits.{answer-laws}
+use Rattle.acceptance.specs.InPlace.{counting}
 use Rattle.acceptance.proofs.questions.job_at.Statement.{statement}
 use Rattle.acceptance.proofs.questions.job_at.Tie as tie
 
@@ -8,7 +8,7 @@ pub job-at-spec : {M : Type 1} → statement M
 job-at-spec =
     tie.close
     (tie.spec
-    (λ c. search (needs, answer-laws))
-    (λ c κs. search (needs, answer-laws))
-    (λ c. search (needs, answer-laws))
-    (λ c. search (needs, answer-laws)))
+    (λ c. search (needs, counting))
+    (λ c κs. search (needs, counting))
+    (λ c. search (needs, counting))
+    (λ c. search (needs, counting)))

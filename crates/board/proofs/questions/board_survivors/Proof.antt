@@ -1,6 +1,6 @@
 -- `board_survivors`: each way out is a law.
 use borrow.Author.Needs.{needs}
-use Rattle.board.specs.Exits.{laws}
+use Rattle.acceptance.specs.InPlace.{told}
 use Rattle.board.proofs.questions.board_survivors.Statement.{statement}
 use Rattle.board.proofs.questions.board_survivors.Tie as tie
 
@@ -8,9 +8,9 @@ pub board-survivors-spec : {M : Type 1} → statement M
 board-survivors-spec =
     tie.close
     (tie.spec
-    (λ c κs. search (needs, laws))
-    (λ c. search (needs, laws))
-    (λ c κs. search (needs, laws))
-    (λ c κs. search (needs, laws))
-    (λ c. search (needs, laws))
-    (λ c. search (needs, laws)))
+    (λ c κs. search (needs, told))
+    (λ c. search (needs, told))
+    (λ c κs. search (needs, told))
+    (λ c. search (needs, told))
+    (λ c. search (needs, told))
+    (λ c. search (needs, told)))
