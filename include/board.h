@@ -51,11 +51,14 @@
  * kept operations before it had left. For that, a queue call within an operation is refused once an
  * operation of a later epoch has appended or taken (BOARD_NEWER): end, begin again, and repeat it.
  *
- * WHO MAY CALL WHEN. Calls on one store are made one after another: with several threads of the
- * machine, hold a lock of your own around each call. "Thread" below is a number from 0 to T - 1 that
- * holds one open operation; operations of different threads may interleave freely. Calls on
- * different stores need no lock. From a power cut until board_recover answers BOARD_DONE nothing but
- * board_recover is called; between calls nobody else writes into the three blocks.
+ * WHO MAY CALL WHEN. A call that changes a store is made alone: with several threads of the machine,
+ * hold a lock of your own around it. board_read, board_look, their refusals and the questions to an
+ * image write nothing into memory that you lent, and the library has no memory of its own. So any
+ * number of these may run at once, as long as none that changes the store does: a lock for many readers
+ * or one writer serves, held until the words read are used. Calls on different stores need no lock.
+ * "Thread" below is a number from 0 to T - 1 that holds one open operation; operations of different
+ * threads may interleave freely. From a power cut until board_recover answers BOARD_DONE nothing but
+ * board_recover is called on a store; between calls nobody else writes into the three blocks.
  *
  * WHAT HAS TO BE FLUSHED BEFORE WHAT. Only format, advance, sync, write_back and recover store into
  * persistent. A line is one slot's header, one slot's contents, or the clock word. An advance call
@@ -68,8 +71,9 @@
  *
  * Three ways to have the second:
  *
- *   - the machine does it (the caches are in the power-fail domain, or persistent is battery-backed
- *     memory): nothing to flush, use board_sync;
+ *   - the machine does it: stores become durable in the order they are made, and the program does
+ *     nothing for it (the caches are in the power-fail domain, or persistent is battery-backed
+ *     memory). Nothing to flush, use board_sync;
  *   - you do it: use board_advance, and flush persistent after each call, before the next one that
  *     stores into it; in recovery likewise after each board_recover. board_sync stores many lines in
  *     one call: do not use it then;
@@ -78,17 +82,21 @@
  *
  * Which line a call stored: an advance that goes on, one slot's contents or header; one that ticks,
  * the clock, word 2; a recover that goes on, one slot's header. A host that does not look flushes the
- * image. Begin, end and the calls on jobs and on the queue store nothing there, and are followed by no
- * flush.
+ * image. Format stores the whole image. Begin, end and the calls on jobs and on the queue store nothing
+ * there, and are followed by no flush.
  *
  * AFTER A POWER CUT, or when the process was killed, working and transient are lost and may hold
  * anything. Map persistent again, allocate the other two with the same sizes, and call board_recover
- * until it answers BOARD_DONE.
+ * until it answers BOARD_DONE. A host that flushes does so once before the first of these calls: what a
+ * killed process stored last may not be durable yet.
  *
- * Every length below is in words, except that of an image's bytes. A call accepts any lengths and
- * any words: it refuses what is not a store, and a refusal changes nothing. The pointers must be
- * valid for their lengths, and the blocks must not overlap. A call keeps no pointer, allocates
- * nothing and always returns.
+ * WHAT YOU LEND. Every length below is in words, except that of an image's bytes. A call accepts any
+ * lengths and any words: it refuses what is not a store, and a refusal changes nothing. The pointers
+ * must be valid for their lengths. Blocks and values are aligned as uint32_t, to 4 bytes; an image's
+ * bytes may stand at any address. The three blocks must not overlap, and a value that you hand over must
+ * not overlap them: copy what board_read or board_look shows before you hand it back. A call keeps no
+ * pointer, allocates nothing and always returns. On the stack board_recover, board_survivors and
+ * board_clock take at most 24 KB (24,576 bytes), every other call at most 512 bytes.
  */
 #ifndef BOARD_H
 #define BOARD_H
@@ -96,9 +104,32 @@
 #include <stddef.h>
 #include <stdint.h>
 
+/* The version of this header. */
+#define BOARD_VERSION_MAJOR 0
+#define BOARD_VERSION_MINOR 5
+#define BOARD_VERSION_PATCH 0
+#define BOARD_VERSION (BOARD_VERSION_MAJOR * 10000 + BOARD_VERSION_MINOR * 100 + BOARD_VERSION_PATCH)
+
+/* Before a call whose answer can be a refusal: the compiler warns where it is not looked at. */
+#ifndef BOARD_MUST_CHECK
+#ifdef __GNUC__
+#define BOARD_MUST_CHECK __attribute__((warn_unused_result))
+#else
+#define BOARD_MUST_CHECK
+#endif
+#endif
+
+/* Before what the header defines and the library exports too, for hosts in other languages. */
+#ifndef BOARD_INLINE
+#define BOARD_INLINE static inline
+#endif
+
 #ifdef __cplusplus
 extern "C" {
 #endif
+
+/* The version of the library that is linked, as BOARD_VERSION. */
+uint32_t board_version(void);
 
 /* Why a call declines. A call that declines for several reasons gives the lowest number, with
  * BOARD_EMPTY in the place of BOARD_NO_JOB. Any call on a store but format can give BOARD_SIZES and
@@ -134,10 +165,17 @@ enum board_refusal {
 /* A 64-bit answer of BOARD_REFUSED or more is a refusal: BOARD_REFUSED plus its number. */
 #define BOARD_REFUSED UINT64_C(4294967296)
 
-/* A refusal in English. It takes a call's answer as it is, 32 or 64 bits wide. */
-static inline const char *board_refusal_text(uint64_t answer)
+/* The refusal's number in a 64-bit answer, 0 where it is none. */
+static inline uint32_t board_refusal_of(uint64_t answer)
 {
-    switch (answer >= BOARD_REFUSED ? answer - BOARD_REFUSED : answer) {
+    return answer < BOARD_REFUSED ? 0 : (uint32_t)(answer - BOARD_REFUSED);
+}
+
+/* A refusal's number in English; 0 is "accepted". It takes the number alone: a 32-bit answer, or
+ * board_refusal_of a 64-bit one. A position, a count of lines or BOARD_TICKED is no such number. */
+BOARD_INLINE const char *board_refusal_text(uint32_t refusal)
+{
+    switch (refusal) {
     case 0: return "accepted";
     case BOARD_SIZES: return "the sizes are out of range, or images, notes and lengths do not agree";
     case BOARD_CLOCK: return "the clock is out of range, or clocks and open operations do not agree";
@@ -168,8 +206,10 @@ size_t board_image_words(uint32_t slots, uint32_t words);
 size_t board_transient_words(uint32_t slots, uint32_t threads);
 
 /* Makes a fresh store of these sizes, whatever the memory holds: clock 2, no job, an empty queue. It
- * answers 0, or BOARD_SIZES and changes nothing. Flush the persistent image before you use the store;
- * a power cut while it is made is not covered. */
+ * answers 0, or BOARD_SIZES and changes nothing. Flush the persistent image before you use the store. A
+ * power cut while it is made is not covered: a file is made under another name, flushed, and renamed
+ * (examples/courier.c). */
+BOARD_MUST_CHECK
 uint32_t board_format(uint32_t *working, size_t working_words,
                       uint32_t *persistent, size_t persistent_words,
                       uint32_t *transient, size_t transient_words,
@@ -179,12 +219,14 @@ uint32_t board_format(uint32_t *working, size_t working_words,
 
 /* Opens an operation of the thread in the clock's epoch.
  * Refusals: BOARD_NO_THREAD, BOARD_ALREADY_OPEN. */
+BOARD_MUST_CHECK
 uint32_t board_begin(const uint32_t *working, size_t working_words,
                      const uint32_t *persistent, size_t persistent_words,
                      uint32_t *transient, size_t transient_words, uint32_t thread);
 
 /* Closes it. Keep operations short: one left open in the epoch before the clock's holds the clock.
  * Refusals: BOARD_NO_THREAD, BOARD_NOT_OPEN. */
+BOARD_MUST_CHECK
 uint32_t board_end(const uint32_t *working, size_t working_words,
                    const uint32_t *persistent, size_t persistent_words,
                    uint32_t *transient, size_t transient_words, uint32_t thread);
@@ -193,6 +235,7 @@ uint32_t board_end(const uint32_t *working, size_t working_words,
  * W - 1.
  * Refusals: BOARD_NO_THREAD, BOARD_NOT_OPEN, BOARD_BAD_ARGUMENT, BOARD_NEWER, BOARD_JOB_EXISTS,
  * BOARD_NO_UID, BOARD_FULL. */
+BOARD_MUST_CHECK
 uint32_t board_new(uint32_t *working, size_t working_words,
                    const uint32_t *persistent, size_t persistent_words,
                    uint32_t *transient, size_t transient_words,
@@ -201,6 +244,7 @@ uint32_t board_new(uint32_t *working, size_t working_words,
 /* Gives a live job another value. A job last changed in an earlier epoch takes a new slot, and then
  * two must be free; the old one becomes free again a few epochs later.
  * Refusals: BOARD_NO_THREAD, BOARD_NOT_OPEN, BOARD_BAD_ARGUMENT, BOARD_NEWER, BOARD_NO_JOB, BOARD_FULL. */
+BOARD_MUST_CHECK
 uint32_t board_set(uint32_t *working, size_t working_words,
                    const uint32_t *persistent, size_t persistent_words,
                    uint32_t *transient, size_t transient_words,
@@ -209,6 +253,7 @@ uint32_t board_set(uint32_t *working, size_t working_words,
 /* Ends a live job. For one last changed in an earlier epoch it needs one free slot.
  * Refusals: BOARD_NO_THREAD, BOARD_NOT_OPEN, BOARD_BAD_ARGUMENT (key 0), BOARD_NEWER, BOARD_NO_JOB,
  * BOARD_FULL. */
+BOARD_MUST_CHECK
 uint32_t board_delete(uint32_t *working, size_t working_words,
                       const uint32_t *persistent, size_t persistent_words,
                       uint32_t *transient, size_t transient_words,
@@ -224,12 +269,14 @@ uint32_t board_delete(uint32_t *working, size_t working_words,
  *
  * Refusals: BOARD_NO_THREAD, BOARD_BAD_ARGUMENT (key 0), BOARD_NEWER (only with an operation open),
  * BOARD_NO_JOB. */
+BOARD_MUST_CHECK
 uint64_t board_read(const uint32_t *working, size_t working_words,
                     const uint32_t *persistent, size_t persistent_words,
                     const uint32_t *transient, size_t transient_words,
                     uint32_t thread, uint32_t key);
 
 /* The refusal of board_read with the same arguments, 0 for none. */
+BOARD_MUST_CHECK
 uint32_t board_read_refusal(const uint32_t *working, size_t working_words,
                             const uint32_t *persistent, size_t persistent_words,
                             const uint32_t *transient, size_t transient_words,
@@ -242,6 +289,7 @@ uint32_t board_read_refusal(const uint32_t *working, size_t working_words,
  * plus the refusal, which uses up no number.
  * Refusals: BOARD_NO_THREAD, BOARD_NOT_OPEN, BOARD_BAD_ARGUMENT (the value's length), BOARD_NEWER,
  * BOARD_NO_UID, BOARD_FULL. */
+BOARD_MUST_CHECK
 uint64_t board_append(uint32_t *working, size_t working_words,
                       const uint32_t *persistent, size_t persistent_words,
                       uint32_t *transient, size_t transient_words,
@@ -258,6 +306,7 @@ uint64_t board_append(uint32_t *working, size_t working_words,
  *     }
  *
  * Refusals: BOARD_NO_THREAD, BOARD_NOT_OPEN, BOARD_NEWER, BOARD_EMPTY, BOARD_FULL. */
+BOARD_MUST_CHECK
 uint32_t board_take(uint32_t *working, size_t working_words,
                     const uint32_t *persistent, size_t persistent_words,
                     uint32_t *transient, size_t transient_words,
@@ -267,12 +316,14 @@ uint32_t board_take(uint32_t *working, size_t working_words,
  * The word before it is the entry's order number. Like board_read it needs no open operation and
  * changes nothing, and the words stay as they are until the next call that changes the store.
  * Refusals: BOARD_NO_THREAD, BOARD_NEWER (only with an operation open), BOARD_EMPTY. */
+BOARD_MUST_CHECK
 uint64_t board_look(const uint32_t *working, size_t working_words,
                     const uint32_t *persistent, size_t persistent_words,
                     const uint32_t *transient, size_t transient_words,
                     uint32_t thread);
 
 /* The refusal of board_look with the same arguments, 0 for none. */
+BOARD_MUST_CHECK
 uint32_t board_look_refusal(const uint32_t *working, size_t working_words,
                             const uint32_t *persistent, size_t persistent_words,
                             const uint32_t *transient, size_t transient_words,
@@ -293,6 +344,7 @@ enum board_step {
  * at a time. It answers BOARD_STORED, BOARD_TICKED, or BOARD_REFUSED plus the refusal.
  * Refusals: BOARD_STILL_OPEN (at the start of an advance: an operation is open in the epoch before
  * the clock's), BOARD_LAST_EPOCH. */
+BOARD_MUST_CHECK
 uint64_t board_advance(uint32_t *working, size_t working_words,
                        uint32_t *persistent, size_t persistent_words,
                        uint32_t *transient, size_t transient_words);
@@ -302,6 +354,7 @@ uint64_t board_advance(uint32_t *working, size_t working_words,
  * 2 (3N + 1) at most, or BOARD_REFUSED plus the refusal. Only for memory that makes lines durable in
  * their order by itself (see above).
  * Refusals: BOARD_STILL_OPEN (any operation is open), BOARD_LAST_EPOCH. */
+BOARD_MUST_CHECK
 uint64_t board_sync(uint32_t *working, size_t working_words,
                     uint32_t *persistent, size_t persistent_words,
                     uint32_t *transient, size_t transient_words);
@@ -311,6 +364,7 @@ uint64_t board_sync(uint32_t *working, size_t working_words,
  * itself at any moment, and is harmless between any two calls; tests use it to show that. It answers 0
  * or the refusal.
  * Refusals: BOARD_NO_WORD (a position below 3, or not below the image's length). */
+BOARD_MUST_CHECK
 uint32_t board_write_back(const uint32_t *working, size_t working_words,
                           uint32_t *persistent, size_t persistent_words,
                           const uint32_t *transient, size_t transient_words,
@@ -334,10 +388,11 @@ enum board_recovery {
  *     uint64_t r;
  *     while ((r = board_recover(w, wn, p, pn, t, tn)) == BOARD_WENT_ON)
  *         flush(p);
- *     if (r >= BOARD_REFUSED)
- *         complain(board_refusal_text(r));
+ *     if (r != BOARD_DONE)
+ *         complain(board_refusal_text(board_refusal_of(r)));
  *
  * Refusals: BOARD_SIZES, BOARD_CLOCK, BOARD_BAD_SLOT, BOARD_DUPLICATE. */
+BOARD_MUST_CHECK
 uint64_t board_recover(uint32_t *working, size_t working_words,
                        uint32_t *persistent, size_t persistent_words,
                        uint32_t *transient, size_t transient_words);
@@ -346,11 +401,136 @@ uint64_t board_recover(uint32_t *working, size_t working_words,
 
 /* The clock of an image, given as bytes: four to a word, lowest first. Nothing is changed, and the
  * image need not be aligned. Refusals as for board_recover, judged on the image alone. */
+BOARD_MUST_CHECK
 uint64_t board_clock(const uint8_t *image, size_t bytes);
 
 /* How many jobs recovery of this image would give; queue entries are not counted. Otherwise as
  * board_clock. */
+BOARD_MUST_CHECK
 uint64_t board_survivors(const uint8_t *image, size_t bytes);
+
+/* ---- A store as one argument ---- */
+
+/* The three blocks. working and persistent are image_words long. */
+struct board_store {
+    uint32_t *working, *persistent, *transient;
+    size_t image_words, transient_words;
+};
+
+#define BOARD_BLOCKS(store)                                                                \
+    (store)->working, (store)->image_words, (store)->persistent, (store)->image_words,     \
+        (store)->transient, (store)->transient_words
+
+/* What board_read or board_look has found: the value that starts at this position of working. */
+static inline const uint32_t *board_store_value(const struct board_store *store, uint64_t at)
+{
+    return store->working + at;
+}
+
+/* board_store_X is board_X on these blocks. */
+BOARD_MUST_CHECK
+static inline uint32_t board_store_format(const struct board_store *store,
+                                          uint32_t slots, uint32_t words)
+{
+    return board_format(BOARD_BLOCKS(store), slots, words);
+}
+
+BOARD_MUST_CHECK
+static inline uint32_t board_store_begin(const struct board_store *store, uint32_t thread)
+{
+    return board_begin(BOARD_BLOCKS(store), thread);
+}
+
+BOARD_MUST_CHECK
+static inline uint32_t board_store_end(const struct board_store *store, uint32_t thread)
+{
+    return board_end(BOARD_BLOCKS(store), thread);
+}
+
+BOARD_MUST_CHECK
+static inline uint32_t board_store_new(const struct board_store *store,
+                                       uint32_t thread, uint32_t key, const uint32_t *value, size_t value_words)
+{
+    return board_new(BOARD_BLOCKS(store), thread, key, value, value_words);
+}
+
+BOARD_MUST_CHECK
+static inline uint32_t board_store_set(const struct board_store *store,
+                                       uint32_t thread, uint32_t key, const uint32_t *value, size_t value_words)
+{
+    return board_set(BOARD_BLOCKS(store), thread, key, value, value_words);
+}
+
+BOARD_MUST_CHECK
+static inline uint32_t board_store_delete(const struct board_store *store,
+                                          uint32_t thread, uint32_t key)
+{
+    return board_delete(BOARD_BLOCKS(store), thread, key);
+}
+
+BOARD_MUST_CHECK
+static inline uint64_t board_store_read(const struct board_store *store, uint32_t thread, uint32_t key)
+{
+    return board_read(BOARD_BLOCKS(store), thread, key);
+}
+
+BOARD_MUST_CHECK
+static inline uint32_t board_store_read_refusal(const struct board_store *store,
+                                                uint32_t thread, uint32_t key)
+{
+    return board_read_refusal(BOARD_BLOCKS(store), thread, key);
+}
+
+BOARD_MUST_CHECK
+static inline uint64_t board_store_append(const struct board_store *store,
+                                          uint32_t thread, const uint32_t *value, size_t value_words)
+{
+    return board_append(BOARD_BLOCKS(store), thread, value, value_words);
+}
+
+BOARD_MUST_CHECK
+static inline uint32_t board_store_take(const struct board_store *store, uint32_t thread)
+{
+    return board_take(BOARD_BLOCKS(store), thread);
+}
+
+BOARD_MUST_CHECK
+static inline uint64_t board_store_look(const struct board_store *store, uint32_t thread)
+{
+    return board_look(BOARD_BLOCKS(store), thread);
+}
+
+BOARD_MUST_CHECK
+static inline uint32_t board_store_look_refusal(const struct board_store *store, uint32_t thread)
+{
+    return board_look_refusal(BOARD_BLOCKS(store), thread);
+}
+
+BOARD_MUST_CHECK
+static inline uint64_t board_store_advance(const struct board_store *store)
+{
+    return board_advance(BOARD_BLOCKS(store));
+}
+
+BOARD_MUST_CHECK
+static inline uint64_t board_store_sync(const struct board_store *store)
+{
+    return board_sync(BOARD_BLOCKS(store));
+}
+
+BOARD_MUST_CHECK
+static inline uint32_t board_store_write_back(const struct board_store *store, size_t position)
+{
+    return board_write_back(BOARD_BLOCKS(store), position);
+}
+
+BOARD_MUST_CHECK
+static inline uint64_t board_store_recover(const struct board_store *store)
+{
+    return board_recover(BOARD_BLOCKS(store));
+}
+
+#undef BOARD_BLOCKS
 
 #ifdef __cplusplus
 }

@@ -15,20 +15,6 @@ _Static_assert(BOARD_NO_THREAD == 5 && BOARD_ALREADY_OPEN == 6 && BOARD_NOT_OPEN
                "the header's refusals");
 _Static_assert(BOARD_STORED == 0 && BOARD_TICKED == 1, "the header's replies");
 
-/* Every refusal has a text of its own, whichever way it is answered. */
-static void texts(void)
-{
-    same("the text of no refusal", (uint64_t)strcmp(board_refusal_text(BOARD_EMPTY + 1), board_refusal_text(99)), 0);
-    for (uint32_t one = 0; one <= BOARD_EMPTY; one++) {
-        const char *text = board_refusal_text(one);
-        same("an empty text", text[0] == 0, 0);
-        for (uint32_t other = 0; other < one; other++)
-            same("a text given twice", strcmp(text, board_refusal_text(other)) == 0, 0);
-        if (one > 0)
-            same("the text of a wide answer", (uint64_t)strcmp(text, board_refusal_text(BOARD_REFUSED + one)), 0);
-    }
-}
-
 /* The words of a slot's header: kind, epoch, uid, board. */
 static void header_is(const char *what, const uint32_t *image, size_t slot, uint32_t kind, uint32_t epoch, uint32_t uid,
                       uint32_t board)
@@ -78,7 +64,6 @@ static void boards(void)
 
 int main(void)
 {
-    texts();
     boards();
     const size_t n = board_image_words(SLOTS, WORDS), tn = board_transient_words(SLOTS, THREADS);
     same("the length of an image", n, PREFIX + HEADER_WORDS * SLOTS + WORDS * SLOTS);

@@ -82,7 +82,7 @@ static const char *recover(const struct killer *k, const struct store *s)
         atomic_store_explicit(&k->log->within, CALL_KINDS, memory_order_release);
     }
     if (reply != BOARD_DONE)
-        return board_refusal_text(reply);
+        return board_refusal_text(board_refusal_of(reply));
     if (memcmp(s->working, s->persistent, s->image * sizeof *found) != 0)
         return "working is no copy of persistent";
     return wrong_after(s, found, s->persistent, &k->reference.start);

@@ -298,7 +298,7 @@ const char *wrong_recovery(const struct store *s, const uint32_t *image, const s
         reply = board_recover(working, s->image, persistent, s->image, transient, s->notes);
     }
     if (reply != BOARD_DONE)
-        return board_refusal_text(reply);
+        return board_refusal_text(board_refusal_of(reply));
     if (memcmp(working, persistent, s->image * sizeof *working) != 0)
         return "working is no copy of persistent";
     return wrong_after(s, image, persistent, due);

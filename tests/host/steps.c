@@ -313,7 +313,7 @@ static void check_reply(const struct tracer *t)
     if (t->ticks != ticks)
         stop_wrong(t, "the reply does not fit the clock", CLOCK, s->persistent);
     if (kind == CALL_RECOVER && reply > BOARD_DONE)
-        stop_wrong(t, board_refusal_text(reply), NONE, s->persistent);
+        stop_wrong(t, board_refusal_text(board_refusal_of(reply)), NONE, s->persistent);
     if (kind == CALL_RECOVER && (t->stores > 0) != (reply == BOARD_WENT_ON))
         stop_wrong(t, "recovery went on without a store, or stored and was done", NONE, s->persistent);
     if ((kind == CALL_WRITE_BACK ? reply > 0 : reply >= BOARD_REFUSED) && t->stores > 0)

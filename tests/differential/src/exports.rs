@@ -1,11 +1,14 @@
 //! The C exports, as the header declares them. Each call on a store takes working, persistent and transient,
 //! every one as a pointer and its length in words.
 
+use std::ffi::c_char;
+
 type Words = *mut u32;
 
 extern "C" {
     pub fn board_clock(image: *const u8, bytes: usize) -> u64;
     pub fn board_survivors(image: *const u8, bytes: usize) -> u64;
+    pub fn board_refusal_text(refusal: u32) -> *const c_char;
     pub fn board_image_words(slots: u32, words: u32) -> usize;
     pub fn board_transient_words(slots: u32, threads: u32) -> usize;
     pub fn board_recover(w: Words, wl: usize, p: Words, pl: usize, t: Words, tl: usize) -> u64;

@@ -4,6 +4,7 @@ use crate::exports::*;
 use crate::lent::Lent;
 use simulator::calls::{simulate, Call};
 use simulator::store::Store;
+use std::ffi::CStr;
 
 /// The six arguments that every call on a store begins with.
 #[derive(Clone, Copy)]
@@ -54,6 +55,12 @@ pub fn answers(bytes: &[u8]) -> [u64; 2] {
 pub fn lengths(slots: u32, words: u32, threads: u32) -> [usize; 2] {
     // SAFETY: both take numbers alone.
     unsafe { [board_image_words(slots, words), board_transient_words(slots, threads)] }
+}
+
+/// A refusal in English, as the library exports it.
+pub fn refusal_text(refusal: u32) -> &'static str {
+    // SAFETY: it takes a number alone, and gives a text that is never freed and ends in 0.
+    unsafe { CStr::from_ptr(board_refusal_text(refusal)) }.to_str().expect("a text in ASCII")
 }
 
 /// Recover, which is the only call here.
