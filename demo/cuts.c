@@ -86,14 +86,23 @@ static void hold_against_log(const struct desk *d, struct outcome *o)
     replay_queue(d, o->clock - 2, &o->queue_due);
     uint32_t last = o->queue_due.count > 0 ? o->queue_due.waiting[o->queue_due.count - 1].order : 0;
     o->queue_wrong = !same_queue(&o->queue_after, &o->queue_due) || o->next_order != last + 1;
-    o->lost = o->wrong = o->returned = o->closed = 0;
-    for (const struct change *change = d->log; change < d->log + d->changes; change++) {
-        o->lost += change->epoch > o->clock - 2;
-        o->closed += change->epoch <= o->clock - 2 && change->kind == CLOSED;
-    }
-    for (uint32_t i = 0; i < d->jobs; i++) {
+    o->wrong = 0;
+    for (uint32_t i = 0; i < d->jobs; i++)
         o->wrong += !same_job(&o->after[i], &o->due[i]);
-        o->returned += o->after[i].open && !o->due[i].open;
+}
+
+/* The closed jobs, and which are open again. */
+static void count_closed(const struct desk *d, struct outcome *o)
+{
+    o->lost = o->closed = o->returned = o->recent = o->undone = 0;
+    for (const struct change *change = d->log; change < d->log + d->changes; change++) {
+        bool late = change->epoch > o->clock - 2, closed = change->kind == CLOSED;
+        bool again = closed && o->after[change->key - FIRST_KEY].open;
+        o->lost += late;
+        o->closed += closed && !late;
+        o->returned += again && !late;
+        o->recent += closed && late;
+        o->undone += again && late;
     }
 }
 
@@ -112,20 +121,22 @@ static void recover_image(const struct desk *d, const uint32_t *image, struct ou
     } while (answer == BOARD_WENT_ON);
     if (answer != BOARD_DONE)
         stop("recover", answer);
-    read_jobs(&library, working, d->image, persistent, d->image, transient, d->notes, d->jobs, o->after);
+    o->open_after = read_jobs(&library, working, d->image, persistent, d->image, transient, d->notes, d->jobs, o->after);
     o->next_order = read_queue(&library, working, d->image, persistent, d->image, transient, d->notes, &o->queue_after);
     free(working);
     free(persistent);
     free(transient);
     hold_against_log(d, o);
+    count_closed(d, o);
 }
 
 void recover(const struct desk *d, struct outcome *o) { recover_image(d, d->persistent, o); }
 
-uint64_t stores_of(day *play, uint32_t size, uint32_t slots, uint64_t seed, uint64_t *busy_from)
+uint64_t stores_of(day *play, const struct calls *calls, uint32_t size, uint32_t slots, uint64_t seed,
+                   uint64_t *busy_from)
 {
     struct desk d;
-    open_desk(&d, &library, slots, seed, 0);
+    open_desk(&d, calls, slots, seed, 0);
     play(&d, size);
     uint64_t stores = d.stores;
     *busy_from = d.busy_from;
@@ -133,14 +144,13 @@ uint64_t stores_of(day *play, uint32_t size, uint32_t slots, uint64_t seed, uint
     return stores;
 }
 
-/* ---- The worst cut of the broken rule ---- */
+/* ---- One moment of the second day ---- */
 
 static void keep_worst(struct desk *d)
 {
     struct worst *worst = d->told;
-    if (d->stores < d->cut)
+    if (d->stores < worst->from)
         return;
-    d->cut = d->stores + 1;
     if (worst->o.returned > 0 && d->persistent[CLOCK] != worst->o.clock) {
         d->dark = true;
         return;
@@ -148,22 +158,59 @@ static void keep_worst(struct desk *d)
     recover(d, &worst->tried);
     if (worst->tried.returned > worst->o.returned) {
         worst->o = worst->tried;
-        worst->store = d->stores;
-        worst->minute = d->minute;
+        worst->moment = (struct moment){d->minute, d->late};
     }
 }
 
-void find_worst(struct desk *d, struct worst *worst, uint32_t stops, uint64_t seed, uint64_t cut)
+/* Tries every store from this one on. */
+static void try_from(struct worst *worst, uint32_t stops, uint64_t seed, uint64_t from)
 {
-    for (uint64_t from = cut;; from = 1) {
-        open_desk(d, &early, slots_for(stops / 3), seed, from);
-        d->after_store = keep_worst;
-        d->told = worst;
-        second_day(d, stops);
-        if (worst->o.returned > 0 || from == 1)
-            return;
-        close_desk(d);
-    }
+    struct desk d;
+    worst->from = from;
+    open_desk(&d, &early, slots_for(stops / 3), seed, 0);
+    d.after_store = keep_worst;
+    d.told = worst;
+    second_day(&d, stops);
+    close_desk(&d);
+}
+
+void find_worst(struct worst *worst, uint32_t stops, uint64_t seed)
+{
+    uint64_t busy, all = stores_of(second_day, &early, stops, slots_for(stops / 3), seed, &busy), choice = seed ^ 2;
+    below(&choice, 2);
+    worst->o.returned = 0;
+    try_from(worst, stops, seed, busy + below(&choice, (uint32_t)(all - busy + 1)));
+    if (worst->o.returned == 0)
+        try_from(worst, stops, seed, 1);
+}
+
+/* The last store of a moment. */
+struct reached {
+    struct moment moment;
+    uint64_t store;
+};
+
+static void note_moment(struct desk *d)
+{
+    struct reached *reached = d->told;
+    if (d->minute == reached->moment.minute && d->late <= reached->moment.late)
+        reached->store = d->stores;
+    d->dark = d->minute > reached->moment.minute;
+}
+
+void play_until(struct desk *d, const struct calls *calls, bool syncs, uint32_t stops, uint64_t seed,
+                struct moment moment)
+{
+    struct reached reached = {moment, 0};
+    open_desk(d, calls, slots_for(stops / 3), seed, 0);
+    d->syncs = syncs;
+    d->after_store = note_moment;
+    d->told = &reached;
+    second_day(d, stops);
+    close_desk(d);
+    open_desk(d, calls, slots_for(stops / 3), seed, reached.store);
+    d->syncs = syncs;
+    second_day(d, stops);
 }
 
 /* ---- Every cut of a day ---- */
@@ -224,7 +271,7 @@ const struct tally *count_day(day *play, const struct calls *calls, uint32_t siz
     memset(&t, 0, sizeof t);
     t.said = time(NULL);
     uint64_t from;
-    t.stores = stores_of(play, size, slots, seed, &from);
+    t.stores = stores_of(play, calls, size, slots, seed, &from);
     t.random = seed;
     open_desk(&d, calls, slots, seed, 0);
     t.last = copy(d.persistent, d.image);

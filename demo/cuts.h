@@ -12,11 +12,13 @@ struct outcome {
     struct queue queue_before, queue_after, queue_due;
     uint32_t next_order; /* what an append after recovery is given */
     bool queue_wrong;    /* the queue is not as every older change left it, or the next number does not go on from it */
-    uint32_t clock, calls, open_before;
+    uint32_t clock, calls, open_before, open_after;
     uint32_t lost;     /* changes of the last two epochs */
     uint32_t wrong;    /* jobs that are not as every older change left them */
-    uint32_t returned; /* of these: closed for good, and open again */
-    uint32_t closed;   /* jobs closed for good */
+    uint32_t closed;   /* jobs closed before the last two epochs */
+    uint32_t returned; /* of these: open again */
+    uint32_t recent;   /* jobs closed in the last two epochs */
+    uint32_t undone;   /* of these: open again */
 };
 
 bool same_job(const struct job *a, const struct job *b);
@@ -31,18 +33,28 @@ void before_cut(const struct desk *d, struct outcome *o);
 void recover(const struct desk *d, struct outcome *o);
 
 /* How many stores a day makes without a cut, and the first once the board is as full as it gets. */
-uint64_t stores_of(day *play, uint32_t size, uint32_t slots, uint64_t seed, uint64_t *busy_from);
+uint64_t stores_of(day *play, const struct calls *calls, uint32_t size, uint32_t slots, uint64_t seed,
+                   uint64_t *busy_from);
 
-/* The store at which most delivered jobs would come back, within the first clock after the cut at which any would. */
-struct worst {
-    struct outcome o, tried;
-    uint64_t store;
+/* A moment of the second day: a minute, and how many stores were made since its work was done. */
+struct moment {
     int minute;
+    uint64_t late;
 };
 
-/* Plays the second day with the broken rule and tries the stores from this cut on, or all where none of these brings
-   a job back. The desk is left open. */
-void find_worst(struct desk *d, struct worst *worst, uint32_t stops, uint64_t seed, uint64_t cut);
+/* Where the broken rule brings most jobs back: at the first clock, from a cut that chance chooses on, at which it brings
+   any; from the morning on where none is left after that cut. */
+struct worst {
+    struct outcome o, tried;
+    struct moment moment;
+    uint64_t from;
+};
+void find_worst(struct worst *worst, uint32_t stops, uint64_t seed);
+
+/* Plays the second day up to this moment, where the power fails, or to the last store of its minute where there are
+   fewer. The desk is left open. */
+void play_until(struct desk *d, const struct calls *calls, bool syncs, uint32_t stops, uint64_t seed,
+                struct moment moment);
 
 /* What every cut of a day came to: one after each store, and one within it where it is of more than a word. */
 struct tally {

@@ -7,13 +7,14 @@
 #include <stdlib.h>
 #include <string.h>
 
-enum { MINUTES_OF_EPOCH = 5 };
+enum { DELIVERIES = 3 }; /* in a minute of the second day */
 
 const struct calls library = CALLS(board);
 
 void stop(const char *what, uint64_t answer)
 {
-    fprintf(stderr, "demo: %s: %s\n", what, board_refusal_text(answer));
+    uint32_t refusal = answer < BOARD_REFUSED ? (uint32_t)answer : board_refusal_of(answer);
+    fprintf(stderr, "demo: %s: %s\n", what, board_refusal_text(refusal));
     exit(2);
 }
 
@@ -45,7 +46,7 @@ void open_desk(struct desk *d, const struct calls *calls, uint32_t slots, uint64
     d->working = block(d->image * sizeof(uint32_t));
     d->persistent = block(d->image * sizeof(uint32_t));
     d->transient = block(d->notes * sizeof(uint32_t));
-    d->random = seed;
+    d->random = d->memory = seed;
     d->cut = cut;
     uint32_t refusal = calls->format(STORE_OF(d), slots, WORDS);
     if (refusal != 0)
@@ -63,6 +64,7 @@ void close_desk(struct desk *d)
 static void stored(struct desk *d)
 {
     d->stores++;
+    d->late++;
     if (d->after_store != NULL)
         d->after_store(d);
     if (d->stores == d->cut)
@@ -90,7 +92,7 @@ static void write_back(struct desk *d)
     size_t position;
     int tries = 100;
     do
-        position = FIRST_WORD + below(&d->random, (uint32_t)d->image - FIRST_WORD);
+        position = FIRST_WORD + below(&d->memory, (uint32_t)d->image - FIRST_WORD);
     while (d->working[position] == d->persistent[position] && --tries > 0);
     uint32_t refusal = d->calls->write_back(STORE_OF(d), position);
     if (refusal != 0)
@@ -204,19 +206,25 @@ static void begin(struct desk *d)
         stop("begin", refusal);
 }
 
-/* The operation ends, a minute passes. An advance is begun in the middle of each five minutes and ends with them. */
 static void end(struct desk *d)
 {
     uint32_t refusal = d->calls->end(STORE_OF(d), 0);
     if (refusal != 0)
         stop("end", refusal);
+}
+
+/* A minute passes. An advance is begun in the middle of each epoch and ends with it. */
+static void pass_minute(struct desk *d)
+{
+    d->late = 0;
     for (uint32_t words = below(&d->random, 3); words > 0; words--)
         write_back(d);
     if (d->minute % MINUTES_OF_EPOCH == 2)
         advance(d, 8);
     if (d->minute % MINUTES_OF_EPOCH == MINUTES_OF_EPOCH - 1)
         advance(d, -1);
-    d->minute++;
+    if (!d->dark)
+        d->minute++;
 }
 
 void replay(const struct desk *d, uint32_t epoch, struct job *jobs)
@@ -259,16 +267,23 @@ static uint32_t some_job(struct desk *d, bool oldest)
     return FIRST_KEY + at;
 }
 
-/* Jobs are opened until so many are open; then they are moved, cancelled and replaced. */
-void first_day(struct desk *d, uint32_t jobs)
+/* The morning: so many jobs come in, a few each minute. */
+static void open_jobs(struct desk *d, uint32_t jobs, uint32_t each_minute)
 {
     while (!d->dark && d->jobs < jobs) {
         begin(d);
-        for (int i = 0; i < 3 && d->jobs < jobs; i++)
-            open_job(d);
+        open_job(d);
         end(d);
+        if (d->jobs % each_minute == 0)
+            pass_minute(d);
     }
     d->busy_from = d->stores + 1;
+}
+
+/* Jobs are opened until so many are open; then they are moved, cancelled and replaced. */
+void first_day(struct desk *d, uint32_t jobs)
+{
+    open_jobs(d, jobs, 3);
     for (uint32_t minutes = jobs * 2 / 3; !d->dark && minutes > 0; minutes--) {
         begin(d);
         move_job(d, some_job(d, false));
@@ -280,34 +295,49 @@ void first_day(struct desk *d, uint32_t jobs)
         }
         hand_over(d, some_job(d, false));
         end(d);
+        pass_minute(d);
     }
     advance(d, -1);
 }
 
-/* A third of the stops is known in the morning; with each delivery a new stop comes in, until all are known. */
+/* A job is delivered, and a new stop comes in, until all are known. */
+static void deliver(struct desk *d, uint32_t stops)
+{
+    begin(d);
+    close_job(d, some_job(d, below(&d->random, 2) == 0));
+    if (d->jobs < stops)
+        open_job(d);
+    end(d);
+    if (!d->syncs)
+        return;
+    uint64_t lines = d->calls->sync(STORE_OF(d));
+    if (lines >= BOARD_REFUSED)
+        stop("sync", lines);
+    d->stores += lines;
+}
+
+static void busy_minute(struct desk *d, uint32_t stops)
+{
+    for (int i = 0; i < DELIVERIES; i++)
+        deliver(d, stops);
+    begin(d);
+    if (below(&d->random, 2) == 0)
+        move_job(d, some_job(d, false));
+    hand_over(d, some_job(d, false));
+    end(d);
+    pass_minute(d);
+}
+
+/* A third of the stops is known in the morning. A job is left in the end. */
 void second_day(struct desk *d, uint32_t stops)
 {
-    while (!d->dark && d->jobs < stops / 3) {
-        begin(d);
-        for (int i = 0; i < 4 && d->jobs < stops / 3; i++)
-            open_job(d);
-        end(d);
-    }
-    d->busy_from = d->stores + 1;
-    for (uint32_t delivered = 0; !d->dark && delivered + 1 < stops; delivered++) {
-        begin(d);
-        close_job(d, some_job(d, below(&d->random, 2) == 0));
-        if (d->jobs < stops)
-            open_job(d);
-        if (below(&d->random, 2) == 0)
-            move_job(d, some_job(d, false));
-        hand_over(d, some_job(d, false));
-        end(d);
-    }
+    open_jobs(d, stops / 3, DELIVERIES);
+    for (uint32_t left = stops; !d->dark && left > DELIVERIES; left -= DELIVERIES)
+        busy_minute(d, stops);
     advance(d, -1);
 }
 
-uint32_t slots_for(uint32_t open) { return open + 96; }
+uint32_t slots_for(uint32_t open) { return open + 160; }
 
 const struct change *last_change(const struct desk *d, uint32_t key)
 {

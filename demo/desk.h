@@ -11,6 +11,7 @@ enum { CLOCK = 2, FIRST_WORD = 3 }; /* of an image: the clock, and the first wor
 enum { COURIER, ADDRESS, DUE };   /* the words of a job's value */
 enum { PARCEL, GIVER, RECEIVER }; /* and of a hand-over's */
 enum { LEAST_WAITING = 3, MOST_WAITING = 12 };
+enum { MINUTES_OF_EPOCH = 5 };
 
 /* The library, and the rules by hand in C with one of them broken (early.c). */
 extern const struct calls library, early;
@@ -46,10 +47,12 @@ struct desk {
     uint32_t *working, *persistent, *transient;
     struct change *log;
     size_t changes, most_changes;
-    uint32_t jobs; /* how many were ever opened */
-    uint64_t random;
+    uint32_t jobs;           /* how many were ever opened */
+    uint64_t random, memory; /* chance at the desk, and in what the memory copies: one day is the same on any memory */
     int minute;
+    bool syncs;           /* a sync follows each delivery */
     uint64_t stores, cut; /* made so far; the one after which the power fails, 0 for never */
+    uint64_t late;        /* stores since the work of this minute was done */
     uint64_t busy_from;   /* the first store once the board is as full as it gets */
     bool dark;
     void (*after_store)(struct desk *);
