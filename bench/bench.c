@@ -37,10 +37,10 @@ static void fail(const char *what)
     exit(1);
 }
 
-static void accepted(uint64_t answer)
+static void accepted(uint32_t refusal)
 {
-    if (answer != 0)
-        fail(board_refusal_text(answer));
+    if (refusal != 0)
+        fail(board_refusal_text(refusal));
 }
 
 static struct bed new_bed(uint32_t slots)
@@ -205,6 +205,8 @@ static uint64_t do_advance(const struct calls *c, struct bed *b)
     return lines;
 }
 
+static uint64_t do_sync(const struct calls *c, struct bed *b) { return c->sync(BED(b)); }
+
 static uint64_t do_durable(const struct calls *c, struct bed *b)
 {
     uint64_t refused = c->begin(BED(b), 0);
@@ -243,6 +245,7 @@ static const struct measure {
     {"take", half_queue_open, do_take, false, 0},
     {"look", half_queue, do_look, false, UINT64_MAX},
     {"advance, per line", at_work, do_advance, true, UINT64_MAX},
+    {"sync, per line", at_work, do_sync, true, UINT64_MAX},
     {"durable change", settled, do_durable, false, UINT64_MAX},
     {"recovery, nothing to free", full, do_recover, false, 1},
     {"recovery, 1 slot in 8 to free", full_cut, do_recover, false, UINT64_MAX},
@@ -326,6 +329,72 @@ static uint64_t measure(const struct measure *m, uint32_t slots, bool timed)
     return (uint64_t)rounds * (uint64_t)copies;
 }
 
+/* ---- Recovery of random images, some of them damaged: what the measured stores never show ---- */
+
+static uint32_t below(uint32_t limit)
+{
+    static uint64_t state = 20261116;
+    state = state * UINT64_C(6364136223846793005) + UINT64_C(1442695040888963407);
+    return (uint32_t)((state >> 32) * limit >> 32);
+}
+
+/* Mostly one of few small numbers, now and then 0 or a number about the largest. */
+static uint32_t number(uint32_t small)
+{
+    uint32_t choice = below(200);
+    return choice == 0 ? 0 : choice == 1 ? UINT32_C(3999999999) + below(3) : 1 + below(small);
+}
+
+static void random_image(struct bed *b)
+{
+    uint32_t clock = 2 + below(8), *header = b->persistent + FIRST_WORD, *contents = header + 4 * b->slots;
+    memset(b->working, 0x55, (2 * b->image + b->notes) * sizeof *b->working);
+    memcpy(b->persistent, (uint32_t[]){b->slots, WORDS, clock}, FIRST_WORD * sizeof clock);
+    for (uint32_t s = 0; s < b->slots; s++, header += 4, contents += WORDS) {
+        bool empty = below(3) == 0;
+        header[0] = empty ? 0 : below(200) == 0 ? 4 * below(2) : 1 + below(3);
+        header[1] = empty ? 0 : below(200) == 0 ? (clock + 1) * below(2) : 2 + below(clock - 1);
+        header[2] = empty ? 0 : number(3 * b->slots);
+        header[3] = empty ? 0 : below(200) == 0 ? 3 * below(2) : 1 + below(2);
+        contents[0] = number(3 * b->slots);
+    }
+}
+
+/* Both sides count the survivors and recover to the end: the answer. */
+static uint64_t compare_image(struct bed beds[2])
+{
+    static const struct measure recovery = {"recovery of a random image", NULL, do_recover, false, UINT64_MAX};
+    uint64_t replies[2];
+    random_image(&beds[0]);
+    copy_bed(&beds[1], &beds[0]);
+    if (do_survivors(&sides[0], &beds[0]) != do_survivors(&sides[1], &beds[1]))
+        fail("the library and C count other survivors in a random image");
+    for (int side = 0; side < 2; side++)
+        replies[side] = do_recover(&sides[side], &beds[side]);
+    if (replies[0] != replies[1] || !same_bed(&beds[0], &beds[1]))
+        compare(&recovery, &beds[0], &beds[1], replies[0], replies[1]);
+    return replies[0];
+}
+
+static void compare_images(void)
+{
+    int accepted = 0, bad = 0, duplicate = 0;
+    for (uint32_t slots = 2; slots <= 40; slots++) {
+        struct bed beds[2] = {new_bed(slots), new_bed(slots)};
+        for (int i = 0; i < 500; i++) {
+            uint64_t answer = compare_image(beds);
+            accepted += answer < BOARD_REFUSED;
+            bad += answer == BOARD_REFUSED + BOARD_BAD_SLOT;
+            duplicate += answer == BOARD_REFUSED + BOARD_DUPLICATE;
+        }
+        free(beds[0].working);
+        free(beds[1].working);
+    }
+    if (accepted < 1000 || bad < 1000 || duplicate < 1000)
+        fail("an answer came up less than 1000 times in the random images");
+    printf("random images: %d accepted, %d with a bad slot, %d with a duplicate\n", accepted, bad, duplicate);
+}
+
 /* Each side once, its instructions dumped under a name of their own. */
 static void count(const struct measure *m, uint32_t slots)
 {
@@ -367,7 +436,9 @@ int main(int arguments, char **argument)
                 count(&measures[i], sizes[size]);
             fflush(stdout);
         }
-    if (quick)
+    if (quick) {
+        compare_images();
         printf("%d calls at %d sizes, %" PRIu64 " comparisons, library and C agree\n", MEASURES, SIZES, compared);
+    }
     return 0;
 }

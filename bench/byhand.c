@@ -13,13 +13,12 @@
 #endif
 
 enum { FREE, ALLOC, UPDATE, DELETE };
-enum { KIND, EPOCH, UID, BOARD, HEADER_WORDS };
+enum { KIND, EPOCH, UID, BOARD, HEADER_WORDS, HEADER_BYTES = 4 * HEADER_WORDS };
 enum { JOBS = 1, QUEUE = 2 }; /* the two boards */
 enum { SLOTS, WORDS, CLOCK, PREFIX };
 enum { NOTED_SLOTS, LAST_TAKEN, NEXT_UID, NEXT_ORDER, PHASE, PLACE_SLOT, NOTES };
 enum { IDLE, RECLAIMING, CONTENTS, HEADER, TICK };
 enum { MOST_SLOTS = 1024, MOST_WORDS = 9, MOST_THREADS = 16 };
-enum { MOST_IMAGE = PREFIX + (HEADER_WORDS + MOST_WORDS) * MOST_SLOTS };
 #define LARGEST UINT32_C(4000000000)
 #define NONE SIZE_MAX
 
@@ -58,11 +57,11 @@ static bool notes_length_ok(size_t length, size_t slots)
 
 static bool clock_ok(uint32_t clock) { return clock >= 2 && clock <= LARGEST; }
 
-/* Refusals 1 and 2, and where everything stands. */
+/* Refusals 1 and 2, and where everything stands. An image as long as working that says the same sizes has its shape. */
 static uint32_t enter(struct board *b, READ_STORE)
 {
-    if (!image_ok(working, working_words) || !image_ok(persistent, persistent_words) ||
-        working[SLOTS] != persistent[SLOTS] || working[WORDS] != persistent[WORDS])
+    if (!image_ok(working, working_words) || persistent_words != working_words ||
+        persistent[SLOTS] != working[SLOTS] || persistent[WORDS] != working[WORDS])
         return BOARD_SIZES;
     size_t slots = working[SLOTS];
     if (!notes_length_ok(transient_words, slots) || transient[NOTED_SLOTS] != slots ||
@@ -143,28 +142,42 @@ uint32_t BYHAND(end)(NOTES_STORE, uint32_t thread)
     return 0;
 }
 
+/* From a slot's key on: where that key stands next, or the end. */
+static const uint32_t *next_key(const uint32_t *at, const uint32_t *end, size_t words, uint32_t key)
+{
+    while (at < end && *at != key)
+        at += words;
+    return at;
+}
+
 /* Refusal 9, else 0 and the lowest live slot of the job's key, or NONE. */
 static uint32_t look_up(const struct board *b, uint32_t key, uint32_t epoch, size_t *live)
 {
-    *live = NONE;
-    for (size_t s = 0; s < b->slots; s++) {
+    const uint32_t *keys = b->contents, *end = keys + b->words * b->slots;
+    size_t words = b->words, lowest = NONE;
+    for (const uint32_t *at = keys; (at = next_key(at, end, words, key)) < end; at += words) {
+        size_t s = (size_t)(at - keys) / words;
         const uint32_t *header = b->headers + HEADER_WORDS * s;
-        if (b->contents[b->words * s] != key || header[BOARD] != JOBS || !filled(header))
+        if (header[BOARD] != JOBS || !filled(header))
             continue;
         if (header[EPOCH] > epoch)
             return BOARD_NEWER;
-        if (*live == NONE && header[KIND] != DELETE && b->retired[s] == 0)
-            *live = s;
+        if (lowest == NONE && header[KIND] != DELETE && b->retired[s] == 0)
+            lowest = s;
     }
+    *live = lowest;
     return 0;
 }
 
 /* The lowest live slot of the job's key, or NONE. */
 static size_t find_live(const struct board *b, uint32_t key)
 {
-    for (size_t s = 0; s < b->slots; s++) {
+    const uint32_t *keys = b->contents, *end = keys + b->words * b->slots;
+    size_t words = b->words;
+    for (const uint32_t *at = keys; (at = next_key(at, end, words, key)) < end; at += words) {
+        size_t s = (size_t)(at - keys) / words;
         const uint32_t *header = b->headers + HEADER_WORDS * s;
-        if (b->contents[b->words * s] == key && header[BOARD] == JOBS && payload(header) && b->retired[s] == 0)
+        if (header[BOARD] == JOBS && payload(header) && b->retired[s] == 0)
             return s;
     }
     return NONE;
@@ -329,7 +342,7 @@ uint64_t BYHAND(read)(READ_STORE, uint32_t thread, uint32_t key)
 static bool queue_newer(const struct board *b, uint32_t epoch)
 {
     for (const uint32_t *header = b->headers; header < b->headers + HEADER_WORDS * b->slots; header += HEADER_WORDS)
-        if (header[BOARD] == QUEUE && header[EPOCH] > epoch && filled(header))
+        if (header[EPOCH] > epoch && header[BOARD] == QUEUE && filled(header))
             return true;
     return false;
 }
@@ -338,18 +351,20 @@ static bool queue_newer(const struct board *b, uint32_t epoch)
 static uint32_t find_front(const struct board *b, uint32_t epoch, size_t *front)
 {
     uint64_t least = UINT64_MAX;
-    for (size_t s = 0; s < b->slots; s++) {
-        const uint32_t *header = b->headers + HEADER_WORDS * s;
+    size_t words = b->words, first = 0;
+    const uint32_t *header = b->headers, *end = header + HEADER_WORDS * b->slots, *order = b->contents;
+    for (; header < end; header += HEADER_WORDS, order += words) {
         if (header[BOARD] != QUEUE)
             continue;
         if (header[EPOCH] > epoch && filled(header))
             return BOARD_NEWER;
-        uint32_t order = b->contents[b->words * s];
-        if (order < least && payload(header) && b->retired[s] == 0) {
-            least = order;
-            *front = s;
+        size_t s = (size_t)(header - b->headers) / HEADER_WORDS;
+        if (*order < least && payload(header) && b->retired[s] == 0) {
+            least = *order;
+            first = s;
         }
     }
+    *front = first;
     return least == UINT64_MAX ? BOARD_EMPTY : 0;
 }
 
@@ -431,22 +446,40 @@ static void pass(const struct board *b, size_t slot, uint32_t phase, uint32_t ne
         set_place(b, next_phase, 0);
 }
 
-static bool reclaimable(const struct board *b, size_t slot)
+static bool anti_due(const uint32_t *header, uint32_t clock)
 {
-    const uint32_t *header = b->headers + HEADER_WORDS * slot;
-    if (header[KIND] == DELETE)
-        return (uint64_t)header[EPOCH] + ANTI_PAYLOAD_WAIT == b->clock && rest_whole(header);
-    return b->retired[slot] != 0 && (uint64_t)b->retired[slot] + 2 == b->clock && payload(header);
+    return (uint64_t)header[EPOCH] + ANTI_PAYLOAD_WAIT == clock && rest_whole(header);
 }
+
+/* The first slot to reclaim from one on, or the number of slots. A retirement of 0 is none. */
+static size_t next_due(const struct board *b, size_t slot)
+{
+    const uint32_t *header = b->headers + HEADER_WORDS * slot, *retired = b->retired;
+    uint32_t clock = b->clock, then = clock - 2;
+    size_t slots = b->slots;
+    for (; slot < slots; slot++, header += HEADER_WORDS)
+        if (header[KIND] == DELETE ? anti_due(header, clock) : retired[slot] == then && then != 0 && payload(header))
+            break;
+    return slot;
+}
+
+/* The first slot of a waiting list from one on, or the number of slots. */
+static size_t next_waiting(const uint32_t *list, size_t slots, size_t slot)
+{
+    while (slot < slots && list[slot] == 0)
+        slot++;
+    return slot;
+}
+
+static bool underway(const struct board *b) { return b->notes[PHASE] - 1 < TICK; }
 
 /* One lasting line: 1 when it was the clock. */
 static uint64_t step(const struct board *b)
 {
-    uint32_t phase = b->notes[PHASE];
-    size_t slot = b->notes[PLACE_SLOT];
+    uint32_t phase = underway(b) ? b->notes[PHASE] : RECLAIMING;
+    size_t slot = underway(b) ? b->notes[PLACE_SLOT] : 0;
     if (phase == RECLAIMING) {
-        while (slot < b->slots && !reclaimable(b, slot))
-            slot++;
+        slot = next_due(b, slot);
         if (slot < b->slots) {
             memset(b->headers + HEADER_WORDS * slot, 0, HEADER_WORDS * sizeof *b->headers);
             store_header(b, slot);
@@ -459,8 +492,7 @@ static uint64_t step(const struct board *b)
     }
     const uint32_t *list = waiting(b, b->clock - 1);
     if (phase == CONTENTS) {
-        while (slot < b->slots && list[slot] == 0)
-            slot++;
+        slot = next_waiting(list, b->slots, slot);
         if (slot < b->slots) {
             store_contents(b, slot);
             set_place(b, HEADER, slot);
@@ -484,15 +516,12 @@ uint64_t BYHAND(advance)(STORE)
     uint32_t refusal = ENTER(b);
     if (refusal != 0)
         return BOARD_REFUSED + refusal;
-    bool underway = b.notes[PHASE] - 1 < TICK;
-    if (!underway)
+    if (!underway(&b))
         for (size_t i = 0; i < b.threads; i++)
             if (b.open[i] == b.clock - 1)
                 return BOARD_REFUSED + BOARD_STILL_OPEN;
     if (b.clock == LARGEST)
         return BOARD_REFUSED + BOARD_LAST_EPOCH;
-    if (!underway)
-        set_place(&b, RECLAIMING, 0);
     return step(&b);
 }
 
@@ -508,8 +537,8 @@ uint64_t BYHAND(sync)(STORE)
     if (b.clock > LARGEST - 2)
         return BOARD_REFUSED + BOARD_LAST_EPOCH;
     uint64_t lines = 0;
-    for (int ticks = 0; ticks < 2; lines++)
-        ticks += BYHAND(advance)(working, working_words, persistent, persistent_words, transient, transient_words) == 1;
+    for (uint32_t last = b.clock + 2; b.clock < last; lines++)
+        b.clock += (uint32_t)step(&b);
     return lines;
 }
 
@@ -525,122 +554,193 @@ uint32_t BYHAND(write_back)(WORD_STORE, size_t position)
     return 0;
 }
 
-static bool old(const uint32_t *header, uint32_t clock) { return (uint64_t)header[EPOCH] + 2 <= clock; }
-static bool kept(const uint32_t *header, uint32_t clock) { return filled(header) && old(header, clock); }
+/* ---- Recovery: slots are listed by a hash of their uid or key, so that those of one spot alone are compared ---- */
 
-/* Of a header of four nonzero words. */
-static bool in_range(const uint32_t *header, uint32_t clock)
+/* The last slot listed at each spot, and for each slot the one listed before it, or END. */
+struct lists {
+    int shift;
+    uint16_t last[MOST_SLOTS], before[MOST_SLOTS];
+};
+#define END UINT16_MAX
+
+/* As many spots as there are slots, or the next power of two. */
+static void start_lists(struct lists *l, size_t slots)
 {
-    return header[KIND] <= DELETE && header[EPOCH] >= 2 && header[EPOCH] <= clock && header[UID] <= LARGEST &&
-           header[BOARD] <= QUEUE;
+    l->shift = __builtin_clz((uint32_t)slots - 1);
+    memset(l->last, 0xff, sizeof *l->last << (32 - l->shift));
 }
 
-/* A key that a survivor may have. */
-static bool key_ok(uint32_t board, uint32_t key) { return key != 0 && (board != QUEUE || key <= LARGEST); }
+static size_t spot(const struct lists *l, uint32_t number) { return number * UINT32_C(2654435769) >> l->shift; }
 
-/* Whether two survivors have one key on one board. */
-static bool name_twice(const uint32_t *image, const bool *survives)
+static void list(struct lists *l, size_t at, size_t slot)
 {
-    size_t slots = image[SLOTS], words = image[WORDS];
-    const uint32_t *headers = image + PREFIX, *contents = image + contents_at(slots);
-    for (size_t s = 0; s < slots; s++)
-        for (size_t t = 0; survives[s] && t < s; t++)
-            if (contents[words * t] == contents[words * s] && survives[t] &&
-                headers[HEADER_WORDS * t + BOARD] == headers[HEADER_WORDS * s + BOARD])
-                return true;
+    l->before[slot] = l->last[at];
+    l->last[at] = (uint16_t)slot;
+}
+
+/* A slot's mark is its kind where it is kept and not beaten, FREE where it is four zeros, else STALE: to be freed. */
+enum { STALE = DELETE + 1, MARKS };
+
+/* An image as bytes, lowest first, as this machine has its words, and what is found of it. */
+struct judged {
+    const uint8_t *headers, *contents;
+    size_t slots, words;
+    uint8_t mark[MOST_SLOTS];
+    size_t first[MARKS]; /* slot of each mark, or NONE */
+    uint32_t uid, order; /* the largest of the survivors */
+    size_t jobs;         /* of the survivors */
+};
+
+static bool survives(uint8_t mark) { return mark - 1u < UPDATE; }
+
+static uint32_t word(const uint8_t *bytes, size_t at)
+{
+    uint32_t w;
+    memcpy(&w, bytes + at * sizeof w, sizeof w);
+    return w;
+}
+
+static void lose(struct judged *j, size_t slot)
+{
+    if (survives(j->mark[slot]))
+        j->mark[slot] = STALE;
+}
+
+/* A kept slot against those of its uid that are listed: whether one has its epoch. */
+static bool same_version(struct judged *j, const struct lists *uids, size_t at, size_t slot, uint32_t uid,
+                         uint32_t epoch)
+{
+    bool same = false;
+    for (size_t t = uids->last[at]; t != END; t = uids->before[t]) {
+        const uint8_t *other = j->headers + HEADER_BYTES * t;
+        if (word(other, UID) != uid)
+            continue;
+        if (word(other, EPOCH) == epoch)
+            same = true;
+        else
+            lose(j, word(other, EPOCH) < epoch ? t : slot);
+    }
+    return same;
+}
+
+/* Marks the slots: refusal 3 for a header with a word out of range and none 0, else 4 for two of one uid and epoch. */
+static uint32_t judge_headers(struct judged *j, uint32_t clock)
+{
+    struct lists uids;
+    uint32_t refusal = 0, kept_epochs = clock > 3 ? clock - 3 : 0; /* from 2 to clock - 2 */
+    size_t slots = j->slots;
+    const uint8_t *header = j->headers;
+    start_lists(&uids, slots);
+    for (size_t s = 0; s < slots; s++, header += HEADER_BYTES) {
+        uint32_t kind = word(header, KIND), epoch = word(header, EPOCH), uid = word(header, UID),
+                 board = word(header, BOARD);
+        bool in_range = kind - 1 < DELETE && uid - 1 < LARGEST && board - 1 < QUEUE;
+        if (in_range && epoch - 2 < kept_epochs) {
+            size_t at = spot(&uids, uid);
+            j->mark[s] = (uint8_t)kind;
+            if (uids.last[at] != END && same_version(j, &uids, at, s, uid, epoch))
+                refusal = BOARD_DUPLICATE;
+            list(&uids, at, s);
+        } else if ((in_range && epoch - 2 <= clock - 2) || kind == 0 || epoch == 0 || uid == 0 || board == 0) {
+            j->mark[s] = (kind | epoch | uid | board) == 0 ? FREE : STALE;
+        } else {
+            return BOARD_BAD_SLOT;
+        }
+    }
+    return refusal;
+}
+
+static bool same_name(const struct judged *j, const struct lists *keys, size_t at, uint32_t board, uint32_t key)
+{
+    for (size_t t = keys->last[at]; t != END; t = keys->before[t])
+        if (word(j->contents, j->words * t) == key && word(j->headers + HEADER_BYTES * t, BOARD) == board)
+            return true;
     return false;
 }
 
-/* Refusals 1 to 4 of an image, and which of its slots survive. Every pair of kept slots is looked at once. */
-static uint32_t judge(const uint32_t *image, size_t length, bool survives[MOST_SLOTS])
+/* Goes through the marks: refusal 3 for a survivor's key, else 4 for two of one name. */
+static uint32_t judge_keys(struct judged *j)
 {
-    if (!image_ok(image, length))
-        return BOARD_SIZES;
-    size_t slots = image[SLOTS], words = image[WORDS];
-    uint32_t clock = image[CLOCK];
+    struct lists keys;
+    uint32_t refusal = 0, top = 0, order = 0;
+    size_t slots = j->slots, words = j->words, jobs = 0;
+    const uint8_t *header = j->headers, *contents = j->contents;
+    memset(j->first, 0xff, sizeof j->first);
+    start_lists(&keys, slots);
+    for (size_t s = 0; s < slots; s++, header += HEADER_BYTES, contents += words * sizeof(uint32_t)) {
+        if (!survives(j->mark[s])) {
+            if (j->first[j->mark[s]] == NONE)
+                j->first[j->mark[s]] = s;
+            continue;
+        }
+        uint32_t uid = word(header, UID), board = word(header, BOARD), key = word(contents, 0), number = key;
+        if (key == 0 || (board == QUEUE && key > LARGEST))
+            return BOARD_BAD_SLOT;
+        if (board == QUEUE) {
+            order = key > order ? key : order;
+            number = ~key; /* other spots than the jobs' */
+        } else {
+            jobs++;
+        }
+        top = uid > top ? uid : top;
+        size_t at = spot(&keys, number);
+        if (keys.last[at] != END && same_name(j, &keys, at, board, key))
+            refusal = BOARD_DUPLICATE;
+        list(&keys, at, s);
+    }
+    j->uid = top;
+    j->order = order;
+    j->jobs = jobs;
+    return refusal;
+}
+
+/* Refusals 2 to 4 of an image whose sizes are right. */
+static uint32_t judge(struct judged *j, const uint8_t *image)
+{
+    uint32_t clock = word(image, CLOCK);
     if (!clock_ok(clock))
         return BOARD_CLOCK;
-    const uint32_t *headers = image + PREFIX, *contents = image + contents_at(slots);
-    bool twice = false;
-    for (size_t s = 0; s < slots; s++) {
-        const uint32_t *mine = headers + HEADER_WORDS * s;
-        survives[s] = false;
-        if (mine[KIND] == FREE || !rest_whole(mine))
-            continue;
-        if (!in_range(mine, clock))
-            return BOARD_BAD_SLOT;
-        if (!old(mine, clock))
-            continue;
-        survives[s] = mine[KIND] != DELETE;
-        for (size_t t = 0; t < s; t++) {
-            const uint32_t *other = headers + HEADER_WORDS * t;
-            if (other[UID] != mine[UID] || !kept(other, clock))
-                continue;
-            if (other[EPOCH] == mine[EPOCH])
-                twice = true;
-            else
-                survives[other[EPOCH] < mine[EPOCH] ? t : s] = false;
-        }
-    }
-    for (size_t s = 0; s < slots; s++)
-        if (survives[s] && !key_ok(headers[HEADER_WORDS * s + BOARD], contents[words * s]))
-            return BOARD_BAD_SLOT;
-    return twice || name_twice(image, survives) ? BOARD_DUPLICATE : 0;
+    j->slots = word(image, SLOTS);
+    j->words = word(image, WORDS);
+    j->headers = image + PREFIX * sizeof(uint32_t);
+    j->contents = image + contents_at(j->slots) * sizeof(uint32_t);
+    uint32_t versions = judge_headers(j, clock);
+    if (versions == BOARD_BAD_SLOT)
+        return versions;
+    uint32_t names = judge_keys(j);
+    return names != 0 ? names : versions;
 }
 
 uint64_t BYHAND(recover)(STORE)
 {
-    bool survives[MOST_SLOTS];
+    struct judged j;
     if (!image_ok(persistent, persistent_words) || working_words != persistent_words ||
         !notes_length_ok(transient_words, persistent[SLOTS]))
         return BOARD_REFUSED + BOARD_SIZES;
-    uint32_t refusal = judge(persistent, persistent_words, survives);
+    uint32_t refusal = judge(&j, (const uint8_t *)persistent);
     if (refusal != 0)
         return BOARD_REFUSED + refusal;
-    size_t slots = persistent[SLOTS], words = persistent[WORDS], anti = NONE;
-    uint32_t *headers = persistent + PREFIX, *contents = persistent + contents_at(slots), uid = 0, order = 0;
-    for (size_t s = 0; s < slots; s++) {
-        uint32_t *header = headers + HEADER_WORDS * s;
-        if (survives[s]) {
-            if (header[UID] > uid)
-                uid = header[UID];
-            if (header[BOARD] == QUEUE && contents[words * s] > order)
-                order = contents[words * s];
-        } else if (header[KIND] == DELETE && kept(header, persistent[CLOCK])) {
-            if (anti == NONE)
-                anti = s;
-        } else if ((header[KIND] | header[EPOCH] | header[UID] | header[BOARD]) != 0) {
-            memset(header, 0, HEADER_WORDS * sizeof *header);
-            return BOARD_WENT_ON;
-        }
-    }
-    if (anti != NONE) {
-        memset(headers + HEADER_WORDS * anti, 0, HEADER_WORDS * sizeof *headers);
+    size_t freed = j.first[STALE] != NONE ? j.first[STALE] : j.first[DELETE];
+    if (freed != NONE) {
+        memset(persistent + PREFIX + HEADER_WORDS * freed, 0, HEADER_WORDS * sizeof *persistent);
         return BOARD_WENT_ON;
     }
     memcpy(working, persistent, persistent_words * sizeof *working);
     memset(transient, 0, transient_words * sizeof *transient);
-    transient[NOTED_SLOTS] = (uint32_t)slots;
-    transient[LAST_TAKEN] = (uint32_t)slots - 1;
-    transient[NEXT_UID] = uid + 1;
-    transient[NEXT_ORDER] = order + 1;
+    transient[NOTED_SLOTS] = persistent[SLOTS];
+    transient[LAST_TAKEN] = persistent[SLOTS] - 1;
+    transient[NEXT_UID] = j.uid + 1;
+    transient[NEXT_ORDER] = j.order + 1;
     return BOARD_DONE;
 }
 
 uint64_t BYHAND(survivors)(const uint8_t *image, size_t bytes)
 {
-    uint32_t words[MOST_IMAGE];
-    bool survives[MOST_SLOTS];
-    if (bytes % 4 != 0 || bytes > sizeof words)
+    struct judged j;
+    if (bytes % sizeof(uint32_t) != 0 || bytes / sizeof(uint32_t) < PREFIX ||
+        !sizes_ok(word(image, SLOTS), word(image, WORDS)) ||
+        bytes / sizeof(uint32_t) != image_words(word(image, SLOTS), word(image, WORDS)))
         return BOARD_REFUSED + BOARD_SIZES;
-    for (size_t i = 0; i < bytes / 4; i++)
-        words[i] = image[4 * i] | (uint32_t)image[4 * i + 1] << 8 | (uint32_t)image[4 * i + 2] << 16 |
-                   (uint32_t)image[4 * i + 3] << 24;
-    uint32_t refusal = judge(words, bytes / 4, survives);
-    if (refusal != 0)
-        return BOARD_REFUSED + refusal;
-    uint64_t count = 0;
-    for (size_t s = 0; s < words[SLOTS]; s++)
-        count += survives[s] && words[PREFIX + HEADER_WORDS * s + BOARD] == JOBS;
-    return count;
+    uint32_t refusal = judge(&j, image);
+    return refusal != 0 ? BOARD_REFUSED + refusal : j.jobs;
 }
