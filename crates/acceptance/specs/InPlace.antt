@@ -119,7 +119,7 @@ module _ {bytes : List ℕ} {k n w m s c : ℕ} {l : List ℕ} {flags : List Boo
 
     module _ {part : List ℕ} (p : PartOf (wordsOf bytes) s count part) where
       pub chunk-judges : JudgesPart m s count part l flags
-      chunk-judges = record { linked = z .judging .linked; fits = omega (arith, chunk-fits, z .judging .fits); long = z .judging .long; room = p .room }
+      chunk-judges = record { linked = z .judging .carries .linked; fits = omega (arith, chunk-fits, z .judging .fits); long = z .judging .long; room = p .room }
 
       pub chunk-judged : {l′ : List ℕ} {flags′ : List Bool} {r : Verdict} → JudgedPart part m s count c twice l flags l′ flags′ r
           → JudgedOn (wordsOf bytes) n m (s + chunk (n - s)) c l′ flags′ r

@@ -2,12 +2,12 @@
 use Prim.Native.Nat.{ℕ, _+_, _*_, _-_, _≤_, _<_}
 use mathlib.Core.Path.{_≡_, refl, sym, ap, _∙_}
 use mathlib.Core.Logic.{_≢_, _⊎_, ⊎-elim}
-use mathlib.Core.Bool.{Bool, true, false, cond, not, _&&_, _||_, and-true, and-false, or-true, or-false}
+use mathlib.Core.Bool.{Bool, true, false, not, _&&_, _||_, and-true, and-false, or-true, or-false}
 use mathlib.Core.List.{List}
 use lib.ListN.{length, getD, set, length-set}
 use lib.Seq.{getD-set-same, getD-set-other}
 use lib.Dec.{leb, ltb, eqb}
-use borrow.Author.Tests.{le-leb, lt-leb, eq-eqb, ne-eqb, eqb-true, le-ltb, not-true}
+use borrow.Author.Tests.{le-leb, lt-leb, eq-eqb, eqb-true, le-ltb, not-true}
 use native.Mathlib.Nat.{eq-or-lt-of-le}
 use native.Mathlib.Omega.{arith}
 use Rattle.search.specs.Bools.{cases, never, upheld, same-test, and-left, and-right}
@@ -17,7 +17,7 @@ use Rattle.image.specs.Layout.{hasZero, isFilled, isPayload, header, clockOf}
 use Rattle.image.specs.Whole.{whole-says, zero-unfilled}
 use Rattle.chains.specs.Chains.{numberOf, labelOf, pairIn, newerIn, olderIn, Lent, Blank, Linked}
 use Rattle.chains.specs.Requires.{At}
-use Rattle.chains.specs.Linking.{linked-start, linked-skip, linked-link, skip-number, skip-numbers, skip-labels, link-number, link-numbers, link-label, link-labels}
+use Rattle.chains.specs.Carrying.{Carrying, carrying-start, carrying-skip, carrying-link, carried}
 use Rattle.survival.specs.Survivors.{kept, beats, survivor}
 use Rattle.survival.specs.Requires.{Headers, Marked, survives, wins}
 use Rattle.survival.specs.Rivals.{Admits, Admitted}
@@ -172,10 +172,6 @@ module _ {m s : ℕ} (c : ℕ) {h : Header} {l : List ℕ} {flags flags′ : Lis
       }
 
 -- ---- tests about one slot more
--- the number under which a header is linked, 0 if it is not kept
-unfoldable pub numberIn : ℕ → Header → ℕ
-numberIn c h = cond (kept c h) (h .uid) 0
-
 -- a slot that survives among i slots does so among i + 1 unless the last one beats it
 survives-more : (c : ℕ) (hs : ℕ → Header) (i t : ℕ) → survives c hs (i + 1) t ≡ (survives c hs i t && not (beats c (hs t) (hs i)))
 unfolding survives wins
@@ -209,14 +205,21 @@ survives-kept : (c : ℕ) (hs : ℕ → Header) (i t : ℕ) → kept c (hs t) �
 unfolding survives wins
 survives-kept c hs i t f = rw f (and-false (isPayload (hs t)))
 
--- ---- the loop
+-- ---- the loop: the chains carry the kept headers' uids and epochs
+abbrev keptIn : ℕ → List ℕ → ℕ → Bool
+keptIn c img t = kept c (header img t)
+
+abbrev uidIn : List ℕ → ℕ → ℕ
+uidIn img t = header img t .uid
+
+abbrev epochIn : List ℕ → ℕ → ℕ
+epochIn img t = header img t .epoch
+
 pub record Judging (img : List ℕ) (n c m : ℕ) (i : ℕ) (l : List ℕ) (flags : List Bool) (twice : Bool) : Type 0 where
-  pub linked : Linked m i l
+  pub carries : Carrying (keptIn c img) (uidIn img) (epochIn img) m i l
   pub low : i ≤ n
   pub fits : n ≤ m
   pub long : length flags ≡ 1024
-  pub numbers : (t : ℕ) → t < i → numberOf l t ≡ numberIn c (header img t)
-  pub labels : (t : ℕ) → t < i → kept c (header img t) ≡ true → labelOf l t ≡ header img t .epoch
   pub flagged : (t : ℕ) → t < i → getD flags t false ≡ survives c (header img) i t
   pub fine : (t : ℕ) → t < i → proper c (header img t) ≡ true
   pub twice-is : twice ≡ anyOf (versionBelow c (header img)) i
@@ -224,31 +227,20 @@ pub record Judging (img : List ℕ) (n c m : ℕ) (i : ℕ) (l : List ℕ) (flag
 pub judging-start : {img : List ℕ} {n m : ℕ} (c : ℕ) {l : List ℕ} {flags : List Bool} → Room img n m l flags → Judging img n c m 0 l flags false
 judging-start {img} {n} {m} c z =
     record {
-      linked = linked-start (z .blank);
+      carries = carrying-start (keptIn c img) (uidIn img) (epochIn img) (z .blank);
       low = omega arith;
       fits = z .fits;
       long = z .long;
-      numbers = λ t h. absurd (omega arith);
-      labels = λ t h. absurd (omega arith);
       flagged = λ t h. absurd (omega arith);
       fine = λ t h. absurd (omega arith);
       twice-is = sym (none-some (versionBelow c (header img)) 0 (λ t h. absurd (omega arith)));
     }
 
 module _ {img : List ℕ} {n c m i : ℕ} {l : List ℕ} {flags : List Bool} {twice : Bool} (z : Judging img n c m i l flags twice) where
-  -- ---- the words of the chains and the headers: the same tests
-  module _ (x y t : ℕ) (some : x ≢ 0) (a : t < i) where
-    -- a slot on the chain of x is a kept one of that uid
-    pair-is : (q : ℕ → ℕ → Bool) → (eqb (numberOf l t) x && q (labelOf l t) y) ≡ (kept c (header img t) && (eqb (header img t .uid) x && q (header img t .epoch) y))
-    unfolding numberIn
-    pair-is q =
-        let g = header img t in
-        ⊎-elim
-        (λ (k : kept c g ≡ true). let e : numberOf l t ≡ g .uid = (rw k at (z .numbers t a)) in rw (e, z .labels t a k, k))
-        (λ (f : kept c g ≡ false).
-        let e : numberOf l t ≡ 0 = (rw f at (z .numbers t a)) in
-        rw (e, f, ne-eqb 0 x (λ d. some (sym d))))
-        (cases (kept c g))
+  -- a test of the chains' words is one of the kept headers
+  pair-is : (x y t : ℕ) → x ≢ 0 → t < i → (q : ℕ → ℕ → Bool)
+      → (eqb (numberOf l t) x && q (labelOf l t) y) ≡ (kept c (header img t) && (eqb (header img t .uid) x && q (header img t .epoch) y))
+  pair-is x y t some a q = carried (keptIn c img) (uidIn img) (epochIn img) (z .carries) q x y t some a
 
   module _ (h : Header) (at : h ≡ header img i) where
     -- ---- a slot that is not kept
@@ -266,26 +258,15 @@ module _ {img : List ℕ} {n c m i : ℕ} {l : List ℕ} {flags : List Bool} {tw
       unkept-version = rw (← at, f)
 
       judging-over : {flags′ : List Bool} {l′ : List ℕ} → i < n → proper c h ≡ true → Over l i flags flags′ l′ → Judging img n c m (i + 1) l′ flags′ twice
-      unfolding numberIn
       judging-over {flags′} {l′} b p o =
           let w : i < m = omega (arith, z .fits) in
-          let long : i < length flags = omega (arith, z .long, z .linked .lent .few) in
+          let long : i < length flags = omega (arith, z .long, z .carries .linked .lent .few) in
           rw (o .skipped, o .cleared)
           (record {
-            linked = linked-skip m i l (z .linked) w;
+            carries = carrying-skip (keptIn c img) (uidIn img) (epochIn img) (z .carries) w (ap (kept c) (sym at) ∙ f);
             low = omega arith;
             fits = z .fits;
             long = length-set flags i false ∙ z .long;
-            numbers = λ t a.
-                ⊎-elim
-                (λ (r : t ≡ i). rw (r, ← at, f) (skip-number m i l (z .linked) w))
-                (λ (r : t < i). skip-numbers m i l (z .linked) w t r ∙ z .numbers t r)
-                (eq-or-lt-of-le (omega arith));
-            labels = λ t a k.
-                ⊎-elim
-                (λ (r : t ≡ i). never (kept c h) (ap (kept c) at ∙ ap (λ j. kept c (header img j)) (sym r) ∙ k) f)
-                (λ (r : t < i). skip-labels m i l (z .linked) w t r ∙ z .labels t r k)
-                (eq-or-lt-of-le (omega arith));
             flagged = λ t a.
                 ⊎-elim
                 (λ (r : t ≡ i). rw r (getD-set-same flags i false false long ∙ sym unkept-here))
@@ -331,7 +312,6 @@ module _ {img : List ℕ} {n c m i : ℕ} {l : List ℕ} {flags : List Bool} {tw
 
       judging-met : {flags′ : List Bool} {l′ : List ℕ} {b : Bool} → i < n → proper c h ≡ true → Admitted m l i h flags flags′ l′ b
           → Judging img n c m (i + 1) l′ flags′ (twice || b)
-      unfolding numberIn
       judging-met {flags′} {l′} {b} d p y =
           let x = h .uid in
           let e = h .epoch in
@@ -339,20 +319,12 @@ module _ {img : List ℕ} {n c m i : ℕ} {l : List ℕ} {flags : List Bool} {tw
           let u = y .met .outdone in
           rw (y .linked)
           (record {
-            linked = linked-link m i l x e (z .linked) w some-uid;
+            carries =
+                carrying-link (keptIn c img) (uidIn img) (epochIn img) (z .carries) w (ap (kept c) (sym at) ∙ k) (ap (λ (g : Header). g .uid) at)
+                (ap (λ (g : Header). g .epoch) at) some-uid;
             low = omega arith;
             fits = z .fits;
             long = u .long;
-            numbers = λ t a.
-                ⊎-elim
-                (λ (r : t ≡ i). rw (r, ← at, k) (link-number m i l x e (z .linked) w))
-                (λ (r : t < i). link-numbers m i l x e (z .linked) w t r ∙ z .numbers t r)
-                (eq-or-lt-of-le (omega arith));
-            labels = λ t a q.
-                ⊎-elim
-                (λ (r : t ≡ i). rw (r, ← at) (link-label m i l x e (z .linked) w))
-                (λ (r : t < i). link-labels m i l x e (z .linked) w t r ∙ z .labels t r q)
-                (eq-or-lt-of-le (omega arith));
             flagged = λ t a.
                 ⊎-elim
                 (λ (r : t ≡ i). rw r (kept-here (y .met .here)))
@@ -386,7 +358,7 @@ module _ {img : List ℕ} {n c m i : ℕ} {l : List ℕ} {flags : List Bool} {tw
       at-every (λ s. proper (clockOf img) (header img s)) n (λ t b. rw (← q) (z .fine t (omega arith))) in
       record {
         bad = v .fine ∙ (rw whole);
-        lent = λ f. z .linked .lent;
+        lent = λ f. z .carries .linked .lent;
         marked = λ f. record {
           headers = hd;
           flagged = record { long = z .long; same = λ t b. rw (← q, ← e) (z .flagged t (omega arith)) };

@@ -2,10 +2,10 @@
 use Prim.Native.Nat.{ℕ, _+_, _*_, _-_, _≤_, _<_}
 use mathlib.Core.Path.{_≡_, refl, sym, ap, _∙_}
 use mathlib.Core.Logic.{_≢_, ⊎-elim}
-use mathlib.Core.Bool.{Bool, true, false, cond, _||_, or-false}
+use mathlib.Core.Bool.{Bool, true, false, _||_, or-false}
 use mathlib.Core.List.{List}
 use lib.ListN.{length, getD, set}
-use borrow.Author.Tests.{ne-eqb}
+use lib.Dec.{eqb}
 use native.Mathlib.Nat.{eq-or-lt-of-le}
 use native.Mathlib.Omega.{arith}
 use Rattle.search.specs.Bools.{cases, never}
@@ -14,9 +14,9 @@ use Rattle.image.specs.Layout.{header, keyAt}
 use Rattle.image.specs.declared.name.Name.{Name}
 use Rattle.image.specs.Name.{nameAt, sameName, misnamed, misnamed-false, name-is}
 use Rattle.image.specs.Requires.{Slot, slot}
-use Rattle.chains.specs.Chains.{numberOf, labelOf, linkedAt, pairIn, Lent, Blank, Linked}
+use Rattle.chains.specs.Chains.{labelOf, linkedAt, pairIn, Lent, Blank, Linked}
 use Rattle.chains.specs.Requires.{At, AllLinked}
-use Rattle.chains.specs.Linking.{linked-start, linked-skip, linked-link, skip-number, skip-numbers, skip-labels, link-number, link-numbers, link-label, link-labels}
+use Rattle.chains.specs.Carrying.{Carrying, carrying-start, carrying-skip, carrying-link, carried}
 use Rattle.survival.specs.Survivors.{survivor}
 use Rattle.survival.specs.Requires.{AllMarked}
 use Rattle.survival.specs.Laws.{flag-is}
@@ -102,56 +102,42 @@ module _ {img : List ℕ} {n w m s : ℕ} {l : List ℕ} {flags : List Bool} (z 
       let a = flag-is (z .marked .flagged) (z .slot) t in
       record { gone = λ f. (e, refl); named = λ g. never (survivor img n s) g a }
 
--- ---- the loop
-unfoldable pub keyIn : List ℕ → ℕ → ℕ → ℕ → ℕ
-keyIn img n w t = cond (survivor img n t) (keyAt img n w t) 0
+-- ---- the loop: the chains carry the survivors' keys and boards
+abbrev boardIn : List ℕ → ℕ → ℕ
+boardIn img t = header img t .board
 
 pub record Naming (img : List ℕ) (n w m : ℕ) (i : ℕ) (l : List ℕ) (twice : Bool) : Type 0 where
-  pub linked : Linked m i l
+  pub carries : Carrying (survivor img n) (keyAt img n w) (boardIn img) m i l
   pub low : i ≤ n
   pub fits : n ≤ m
-  pub numbers : (t : ℕ) → t < i → numberOf l t ≡ keyIn img n w t
-  pub labels : (t : ℕ) → t < i → survivor img n t ≡ true → labelOf l t ≡ header img t .board
   pub named : (t : ℕ) → t < i → nameless img n w t ≡ false
   pub twice-is : twice ≡ anyOf (nameBelow img n w) i
 
 pub naming-start : {img : List ℕ} {n w m : ℕ} {l : List ℕ} {flags : List Bool} → NamesRoom img n w m l flags → Naming img n w m 0 l false
 naming-start {img} {n} {w} z =
     record {
-      linked = linked-start (z .blank);
+      carries = carrying-start (survivor img n) (keyAt img n w) (boardIn img) (z .blank);
       low = omega arith;
       fits = z .fits;
-      numbers = λ t h. absurd (omega arith);
-      labels = λ t h. absurd (omega arith);
       named = λ t h. absurd (omega arith);
       twice-is = sym (none-some (nameBelow img n w) 0 (λ t h. absurd (omega arith)));
     }
 
 module _ {img : List ℕ} {n w m i : ℕ} {l : List ℕ} {twice : Bool} (z : Naming img n w m i l twice) where
   pub naming-marked : {flags : List Bool} {l₀ : List ℕ} → NamesRoom img n w m l₀ flags → i < n → NamesMarked img n w m i l flags
-  naming-marked y h = record { names = record { linked = z .linked; within = omega (arith, z .fits) }; marked = y .marked; slot = h }
+  naming-marked y h = record { names = record { linked = z .carries .linked; within = omega (arith, z .fits) }; marked = y .marked; slot = h }
 
   -- ---- a slot that does not survive
   module _ (f : survivor img n i ≡ false) (h : i < n) where
     naming-gone : {l′ : List ℕ} → l′ ≡ set l (4 * i + 2) 0 → Naming img n w m (i + 1) l′ twice
-    unfolding keyIn nameless nameBelow
+    unfolding nameless nameBelow
     naming-gone e =
         let b : i < m = omega (arith, z .fits) in
         rw e
         (record {
-          linked = linked-skip m i l (z .linked) b;
+          carries = carrying-skip (survivor img n) (keyAt img n w) (boardIn img) (z .carries) b f;
           low = omega arith;
           fits = z .fits;
-          numbers = λ t a.
-              ⊎-elim
-              (λ (r : t ≡ i). rw (r, f) (skip-number m i l (z .linked) b))
-              (λ (r : t < i). skip-numbers m i l (z .linked) b t r ∙ z .numbers t r)
-              (eq-or-lt-of-le (omega arith));
-          labels = λ t a k.
-              ⊎-elim
-              (λ (r : t ≡ i). never (survivor img n i) (ap (survivor img n) (sym r) ∙ k) f)
-              (λ (r : t < i). skip-labels m i l (z .linked) b t r ∙ z .labels t r k)
-              (eq-or-lt-of-le (omega arith));
           named = λ t a. ⊎-elim (λ (r : t ≡ i). rw (r, f)) (λ (r : t < i). z .named t r) (eq-or-lt-of-le (omega arith));
           twice-is =
               z .twice-is
@@ -173,20 +159,12 @@ module _ {img : List ℕ} {n w m i : ℕ} {l : List ℕ} {twice : Bool} (z : Nam
 
     -- a slot on the chain of its key is a survivor of that key
     pair-name : mine .key ≢ 0 → (t : ℕ) → t < i → pairIn l (mine .key) (mine .board) t ≡ survivesAs img n w mine t
-    unfolding pairIn survivesAs sameName keyIn
-    pair-name some t a =
-        ⊎-elim
-        (λ (y : survivor img n t ≡ true).
-        let e : numberOf l t ≡ keyAt img n w t = (rw y at (z .numbers t a)) in
-        rw (e, z .labels t a y, y, name-is img n w t))
-        (λ (f : survivor img n t ≡ false).
-        let e : numberOf l t ≡ 0 = (rw f at (z .numbers t a)) in
-        rw (e, f, ne-eqb 0 (mine .key) (λ d. some (sym d))))
-        (cases (survivor img n t))
+    unfolding pairIn survivesAs sameName
+    pair-name some t a = carried (survivor img n) (keyAt img n w) (boardIn img) (z .carries) eqb (mine .key) (mine .board) t some a ∙ (rw (name-is img n w t))
 
     naming-named : {l′ : List ℕ} {b : Bool} → misnamed mine ≡ false → l′ ≡ linkedAt m l i (mine .key) (mine .board)
         → b ≡ anyOf (pairIn l (mine .key) (mine .board)) i → Naming img n w m (i + 1) l′ (twice || b)
-    unfolding keyIn nameless nameBelow
+    unfolding nameless nameBelow
     naming-named {l′} {b} p e q =
         let x = mine .key in
         let y = mine .board in
@@ -194,19 +172,9 @@ module _ {img : List ℕ} {n w m i : ℕ} {l : List ℕ} {twice : Bool} (z : Nam
         let u : i < m = omega (arith, z .fits) in
         rw e
         (record {
-          linked = linked-link m i l x y (z .linked) u some;
+          carries = carrying-link (survivor img n) (keyAt img n w) (boardIn img) (z .carries) u k (sym key-mine) (sym board-mine) some;
           low = omega arith;
           fits = z .fits;
-          numbers = λ t a.
-              ⊎-elim
-              (λ (r : t ≡ i). rw (r, k) (link-number m i l x y (z .linked) u ∙ sym key-mine))
-              (λ (r : t < i). link-numbers m i l x y (z .linked) u t r ∙ z .numbers t r)
-              (eq-or-lt-of-le (omega arith));
-          labels = λ t a d.
-              ⊎-elim
-              (λ (r : t ≡ i). rw r (link-label m i l x y (z .linked) u ∙ sym board-mine))
-              (λ (r : t < i). link-labels m i l x y (z .linked) u t r ∙ z .labels t r d)
-              (eq-or-lt-of-le (omega arith));
           named = λ t a. ⊎-elim (λ (r : t ≡ i). rw (r, k) p) (λ (r : t < i). z .named t r) (eq-or-lt-of-le (omega arith));
           twice-is =
               rw (z .twice-is, q, some-same (pairIn l x y) (survivesAs img n w mine) i (pair-name some))
@@ -249,7 +217,7 @@ module _ {img : List ℕ} {n w m i : ℕ} {l : List ℕ} {twice : Bool} (z : Nam
       record {
         bad = v .fine ∙ sym (none-some (nameless img n w) n (λ t b. z .named t (omega arith)));
         twice-is = λ f. v .twice-is ∙ z .twice-is ∙ (rw q);
-        boards = λ f. record { lent = z .linked .lent; fits = z .fits; boards = λ t b k. z .labels t (omega arith) k };
+        boards = λ f. record { lent = z .carries .linked .lent; fits = z .fits; boards = λ t b k. z .carries .labels t (omega arith) k };
       }
 
 pub ruleset namings = (names-at, names-all, named-bad, named-fine, marked-names, marked-at, marked-slot, marked-flag, marked-yes, marked-no)
