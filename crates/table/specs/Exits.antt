@@ -1,43 +1,44 @@
 -- The ways out of this crate's functions: a law for each, and for each call.
-use Prim.Native.Nat.{ℕ, suc, _+_, _-_, _≤_, _<_}
+use Prim.Native.Nat.{ℕ, zero, suc, _+_, _-_, _≤_, _<_}
 use mathlib.Core.Path.{_≡_, refl, sym, _∙_}
 use mathlib.Core.Bool.{Bool, true, false, cond, _&&_}
 use mathlib.Core.List.{List, _∷_}
 use mathlib.Core.Logic.{⊎-elim}
-use lib.ListN.{length, set, replicate, length-replicate}
+use lib.ListN.{length, getD, set, replicate, length-replicate}
 use lib.Dec.{leb, ltb, eqb}
-use borrow.Author.Tests.{lt-ltb, le-ltb}
+use borrow.Author.Tests.{lt-ltb, le-ltb, eq-eqb, eqb-true}
+use native.Mathlib.Decide.{decLt}
 use native.Mathlib.Omega.{arith}
 use native.Mathlib.Nat.{eq-or-lt-of-le}
 use mir.Val.{Fits}
 use mir.Syntax.{w64}
 use Rattle.search.specs.Bools.{cases}
-use Rattle.search.specs.First.{first, firstOf, first-of, loops as firsts}
+use Rattle.search.specs.First.{first, first-of, Sought, sought-start, sought-next, sought-pass, found-hit, found-end, Next, first-next}
 use Rattle.search.specs.Some.{anyOf, some-at, none-some}
 use Rattle.search.specs.Count.{count}
-use Rattle.search.specs.Ring.{firstRound, ring-ahead, ring-round, round-found, round-one, round-another, round-alone, rounds}
+use Rattle.search.specs.Ring.{ringSlot, firstRound, ring-ahead, ring-round, ring-below, Rounding, round-start, round-next, round-hit, round-end, round-found, round-one, round-another, round-alone}
 use Rattle.search.specs.declared.Found.{Found}
 use Rattle.search.specs.declared.Found.the-variants.{At, Nothing}
 use Rattle.image.specs.declared.header.Header.{Header}
-use Rattle.image.specs.Layout.{contentsAt, isFilled, isPayload, header}
+use Rattle.image.specs.Layout.{jobsBoard, contentsAt, isFilled, isPayload, header, keyAt}
 use Rattle.image.specs.Line.{headerLine, stored, storeLine}
 use Rattle.image.specs.declared.name.Name.{Name}
 use Rattle.image.specs.Name.{jobName, nameAt, sameName}
-use Rattle.image.specs.Requires.{Slot, slot-of, slot-header, slot-after}
+use Rattle.image.specs.Requires.{boardAt, Slot, HeaderFits, slot-of, slot-header, slot-after}
 use Rattle.image.specs.Laws.{area-top}
 use Rattle.image.specs.Storing.{storing-end}
 use Rattle.transient.specs.declared.sizes.Sizes.{Sizes}
 use Rattle.transient.specs.Layout.{note, lastAt, retiredIn, setNote, setRetired, setWaiting}
 use Rattle.transient.specs.Store.{Table, table}
-use Rattle.transient.specs.Requires.{Entered, note-after, note-head, note-slot, shaped-slot, slot-note, slot-working, slot-head, entered-head}
+use Rattle.transient.specs.Requires.{Shaped, Entered, note-after, note-head, note-slot, shaped-slot, slot-note, slot-working, slot-head, entered-head}
 use Rattle.transient.specs.Clearing.{emptying-start, emptying-next}
 use Rattle.table.specs.declared.find.Lookup.the-variants.{Later, Live, Absent}
 use Rattle.table.specs.Find.{newerAt, liveAt, liveSlot, lookup, freeAt, room}
 use Rattle.table.specs.Fill.{filledSlot, joined, taken}
-use Rattle.table.specs.Requires.{RingStart, sooner, setValue, ring-of, ring-header, shaped-in, slot-value, value-slot, header-after}
+use Rattle.table.specs.Requires.{jobAt, hasKey, keyFrom, KeysFrom, Ring, RingStart, nextSlot, sooner, setValue, ring-header, shaped-in, slot-value, value-slot, header-after}
 use Rattle.table.specs.Laws.{key-then-value}
 
--- ---- newer, live: the name is the last part of the tests, and the first that is looked at
+-- ---- newer, live: the name is the last part of the tests, and the first that is looked at: the key by the walk, then the board
 and-no : (a : Bool) → false ≡ a && false
 and-no true = refl
 and-no false = refl
@@ -46,8 +47,10 @@ and-yes : (a : Bool) → a ≡ a && true
 and-yes true = refl
 and-yes false = refl
 
-pub job-named : (l : List ℕ) (n w s key : ℕ) {name : Name} {b : Bool} → name ≡ jobName key → b ≡ sameName (nameAt l n w s) name → b ≡ sameName (nameAt l n w s) (jobName key)
-job-named l n w s key e q = rw (← e) q
+-- a slot has the name of its key's job where it is of the jobs' board
+pub job-named : (z : Sizes) (wk : List ℕ) (s : ℕ) {b : ℕ} → b ≡ boardAt wk s → eqb b jobsBoard ≡ sameName (nameAt wk (z .n) (z .w) s) (jobAt z wk s)
+unfolding sameName nameAt keyAt header
+job-named z wk s e = rw (← e, eq-eqb (getD wk (contentsAt (z .n) (z .w) s) 0) (getD wk (contentsAt (z .n) (z .w) s) 0) refl)
 
 module _ (z : Sizes) (wk : List ℕ) (name : Name) (e s : ℕ) {k : Bool} (q : k ≡ sameName (nameAt wk (z .n) (z .w) s) name) where
   pub newer-other : k ≡ false → false ≡ newerAt z wk name e s
@@ -78,10 +81,6 @@ module _ (z : Sizes) (tb : Table) (name : Name) (s : ℕ) {k : Bool} (q : k ≡ 
     pub live-retired : {r : ℕ} → p ≡ true → r ≡ retiredIn z (tb .transient) s → eqb r 0 ≡ liveAt z tb name s
     unfolding liveAt
     live-retired {r} e re = rw (← at, ← pl, e, ← re, ← q, d) (and-yes (eqb r 0))
-
-pub live-slot : (z : Sizes) (tb : Table) (name : Name) {r : Found} → r ≡ firstOf (liveAt z tb name) (z .n) → r ≡ liveSlot z tb name
-unfolding liveSlot
-live-slot z tb name e = e
 
 -- ---- one walk up for both: none below s is newer, and `live` is the first live one below s, or n
 module _ (n s live : ℕ) {b q : Bool} (e : b ≡ q) where
@@ -156,32 +155,203 @@ module _ {p q : ℕ → Bool} {n s live : ℕ} {a : Bool} (y : Ascending p q n s
             (cases (ltb live n));
       }
 
-module _ (z : Sizes) (tb : Table) (name : Name) (e : ℕ) {s live : ℕ} (y : Ascending (newerAt z (tb .working) name e) (liveAt z tb name) (z .n) s live) where
-  pub lookup-later : {a : Bool} → s < z .n → a ≡ newerAt z (tb .working) name e s → a ≡ true → Later ≡ lookup z tb name e
-  unfolding lookup
-  lookup-later h q t = rw (ascending-newer y h q t)
+pub ascending-pass : {p q : ℕ → Bool} {n s live : ℕ} (d : ℕ) → Ascending p q n s live → s + d ≤ n
+    → ((j : ℕ) → s ≤ j → j < s + d → p j ≡ false) → ((j : ℕ) → s ≤ j → j < s + d → q j ≡ false) → Ascending p q n (s + d) live
+ascending-pass {p} {q} {n} {s} {live} zero y h f g = let e : s + 0 ≡ s = omega arith in rw e y
+ascending-pass {p} {q} {n} {s} {live} (suc d) y h f g =
+    let e : s + suc d ≡ s + d + 1 = omega arith in
+    let u = ascending-pass d y (omega arith) (λ j a b. f j a (omega arith)) (λ j a b. g j a (omega arith)) in
+    rw e (ascending-next u (omega arith) refl (f (s + d) (omega arith) (omega arith)) (sooner-not n (s + d) live refl (g (s + d) (omega arith) (omega arith))))
 
-  none-newer : z .n ≤ s → anyOf (newerAt z (tb .working) name e) (z .n) ≡ false
-  none-newer h = none-some (newerAt z (tb .working) name e) (z .n) (λ k l. y .none k (omega (arith, y .low)))
+-- ---- the two walks, at a slot with the key or at the end
+pub keys-all : {wk tr : List ℕ} {z : Sizes} → Shaped wk tr z → KeysFrom wk z 0
+keys-all y = record { working = y .working; top = omega arith }
 
-  live-is : live < z .n → first (liveAt z tb name) 0 (z .n) ≡ live
-  live-is l = let u = y .so-far in rw (lt-ltb live (z .n) l) at u
+pub keys-after : {wk tr : List ℕ} {z : Sizes} {s : ℕ} → Shaped wk tr z → s < z .n → KeysFrom wk z (s + 1)
+keys-after y h = record { working = y .working; top = omega arith }
 
-  none-live : z .n ≤ s → z .n ≤ live → first (liveAt z tb name) 0 (z .n) ≡ z .n
-  unfolding first
-  none-live h l =
-      let a : z .n - s ≡ 0 = omega arith in
-      let b : s ≡ z .n = omega (arith, y .low) in
-      let u : first (liveAt z tb name) 0 (z .n) ≡ s = rw (le-ltb live (z .n) l, a) at (y .so-far) in
-      u ∙ b
+module _ (z : Sizes) (wk : List ℕ) (key : ℕ) where
+  next-key : {from s : ℕ} → from ≤ z .n → s ≡ keyFrom z wk key from → Next (hasKey z wk key) (z .n) from s
+  next-key h q = first-next (hasKey z wk key) h q
 
-  pub lookup-live : z .n ≤ s → live < z .n → Live live ≡ lookup z tb name e
-  unfolding lookup liveSlot
-  lookup-live h l = rw (none-newer h, first-of (liveAt z tb name) (z .n), live-is l, lt-ltb live (z .n) l)
+  pub key-less : {s s′ : ℕ} → s < z .n → s′ ≡ keyFrom z wk key (s + 1) → z .n - s′ < z .n - s
+  key-less h q = omega (arith, next-key (omega arith) q .above)
 
-  pub lookup-absent : z .n ≤ s → z .n ≤ live → Absent ≡ lookup z tb name e
-  unfolding lookup liveSlot
-  lookup-absent h l = rw (none-newer h, first-of (liveAt z tb name) (z .n), none-live h l, le-ltb (z .n) (z .n) (omega arith))
+module _ (z : Sizes) (tb : Table) (key : ℕ) where
+  pub record Finding (s : ℕ) : Type 0 where
+    pub here : s < z .n → keyAt (tb .working) (z .n) (z .w) s ≡ key
+    pub sought : Sought (liveAt z tb (jobName key)) (z .n) s
+
+  pub record LookingUp (e s live : ℕ) : Type 0 where
+    pub here : s < z .n → keyAt (tb .working) (z .n) (z .w) s ≡ key
+    pub walk : Ascending (newerAt z (tb .working) (jobName key) e) (liveAt z tb (jobName key)) (z .n) s live
+
+  -- a slot with another key is neither newer nor live
+  module _ (s : ℕ) (f : hasKey z (tb .working) key s ≡ false) where
+    another : false ≡ sameName (nameAt (tb .working) (z .n) (z .w) s) (jobName key)
+    unfolding hasKey sameName nameAt keyAt
+    another = rw f
+
+    newer-none : (e : ℕ) → newerAt z (tb .working) (jobName key) e s ≡ false
+    newer-none e = sym (newer-other z (tb .working) (jobName key) e s another refl)
+
+    live-none : liveAt z tb (jobName key) s ≡ false
+    live-none = sym (live-other z tb (jobName key) s another refl)
+
+  -- on to the next slot with the key
+  module _ {from s : ℕ} (h : from ≤ z .n) (q : s ≡ keyFrom z (tb .working) key from) where
+    next : Next (hasKey z (tb .working) key) (z .n) from s
+    next = next-key z (tb .working) key h q
+
+    has : s < z .n → keyAt (tb .working) (z .n) (z .w) s ≡ key
+    unfolding hasKey
+    has b = eqb-true _ key (next .passes b)
+
+    reached : from + (s - from) ≡ s
+    reached = omega (arith, next .above)
+
+    find-on : Sought (liveAt z tb (jobName key)) (z .n) from → Finding s
+    find-on y =
+        record {
+          here = has;
+          sought = rw reached at (sought-pass (s - from) y (omega (arith, next .top)) (λ j a b. live-none j (next .before j a (omega arith))));
+        }
+
+    look-on : {e live : ℕ} → Ascending (newerAt z (tb .working) (jobName key) e) (liveAt z tb (jobName key)) (z .n) from live → LookingUp e s live
+    look-on {e} y =
+        record {
+          here = has;
+          walk =
+              rw reached at
+              (ascending-pass (s - from) y (omega (arith, next .top)) (λ j a b. newer-none j (next .before j a (omega arith)) e)
+              (λ j a b. live-none j (next .before j a (omega arith))));
+        }
+
+  -- the first live slot
+  pub finding-start : {s : ℕ} → s ≡ keyFrom z (tb .working) key 0 → Finding s
+  finding-start q = find-on (omega arith) q (sought-start _ (z .n))
+
+  module _ {s : ℕ} (y : Finding s) where
+    pub finding-end : z .n ≤ s → Nothing ≡ liveSlot z tb (jobName key)
+    unfolding liveSlot
+    finding-end h = found-end (y .sought) h
+
+    module _ {a : Bool} (h : s < z .n) (q : a ≡ liveAt z tb (jobAt z (tb .working) s) s) where
+      live-is : a ≡ liveAt z tb (jobName key) s
+      live-is = rw (y .here h) at q
+
+      pub finding-hit : a ≡ true → At s ≡ liveSlot z tb (jobName key)
+      unfolding liveSlot
+      finding-hit t = found-hit (y .sought) h live-is t
+
+      pub finding-next : {s′ : ℕ} → a ≡ false → s′ ≡ keyFrom z (tb .working) key (s + 1) → Finding s′
+      finding-next f k = find-on (omega arith) k (sought-next (y .sought) h live-is f)
+
+  -- both questions
+  pub looking-start : (e : ℕ) {s : ℕ} → s ≡ keyFrom z (tb .working) key 0 → LookingUp e s (z .n)
+  looking-start e q = look-on (omega arith) q (ascending-start _ _ (z .n))
+
+  module _ (e : ℕ) {s live : ℕ} (y : LookingUp e s live) where
+    module _ {a : Bool} (h : s < z .n) (q : a ≡ newerAt z (tb .working) (jobAt z (tb .working) s) e s) where
+      newer-is : a ≡ newerAt z (tb .working) (jobName key) e s
+      newer-is = rw (y .here h) at q
+
+      pub lookup-later : a ≡ true → Later ≡ lookup z tb (jobName key) e
+      unfolding lookup
+      lookup-later t = rw (ascending-newer (y .walk) h newer-is t)
+
+      pub looking-next : {live′ s′ : ℕ} → a ≡ false → live′ ≡ sooner (liveAt z tb (jobAt z (tb .working) s) s) (z .n) s live
+          → s′ ≡ keyFrom z (tb .working) key (s + 1) → LookingUp e s′ live′
+      looking-next f m k = look-on (omega arith) k (ascending-next (y .walk) h newer-is f (rw (y .here h) at m))
+
+    none-newer : z .n ≤ s → anyOf (newerAt z (tb .working) (jobName key) e) (z .n) ≡ false
+    none-newer h = none-some (newerAt z (tb .working) (jobName key) e) (z .n) (λ k l. y .walk .none k (omega (arith, y .walk .low)))
+
+    first-is : live < z .n → first (liveAt z tb (jobName key)) 0 (z .n) ≡ live
+    first-is l = let u = y .walk .so-far in rw (lt-ltb live (z .n) l) at u
+
+    none-live : z .n ≤ s → z .n ≤ live → first (liveAt z tb (jobName key)) 0 (z .n) ≡ z .n
+    unfolding first
+    none-live h l =
+        let a : z .n - s ≡ 0 = omega arith in
+        let b : s ≡ z .n = omega (arith, y .walk .low) in
+        let u : first (liveAt z tb (jobName key)) 0 (z .n) ≡ s = rw (le-ltb live (z .n) l, a) at (y .walk .so-far) in
+        u ∙ b
+
+    pub lookup-live : z .n ≤ s → live < z .n → Live live ≡ lookup z tb (jobName key) e
+    unfolding lookup liveSlot
+    lookup-live h l = rw (none-newer h, first-of (liveAt z tb (jobName key)) (z .n), first-is l, lt-ltb live (z .n) l)
+
+    pub lookup-absent : z .n ≤ s → z .n ≤ live → Absent ≡ lookup z tb (jobName key) e
+    unfolding lookup liveSlot
+    lookup-absent h l = rw (none-newer h, first-of (liveAt z tb (jobName key)) (z .n), none-live h l, le-ltb (z .n) (z .n) (omega arith))
+
+-- ---- round the table: the walk has met k slots, and s is the last of them
+module _ (n s : ℕ) where
+  pub next-ahead : s + 1 < n → s + 1 ≡ nextSlot n s
+  unfolding nextSlot
+  next-ahead h = rw (lt-ltb (s + 1) n h)
+
+  pub next-round : n ≤ s + 1 → 0 ≡ nextSlot n s
+  unfolding nextSlot
+  next-round h = rw (le-ltb (s + 1) n h)
+
+-- what follows the slot of one step is that of the next
+slot-follows : (n last k : ℕ) → last < n → k + 1 < n → nextSlot n (ringSlot n last k) ≡ ringSlot n last (k + 1)
+slot-follows n last k a b = elim (decLt (last + 1 + k) n) [
+  | yes h ↦ elim (decLt (last + 1 + k + 1) n) [
+    | yes i ↦ let e : last + 1 + k + 1 ≡ last + 1 + (k + 1) = omega arith in
+        rw (← ring-ahead n last k h, ← next-ahead n (last + 1 + k) i, e) (ring-ahead n last (k + 1) (omega arith))
+    | no i ↦ let e : last + 1 + (k + 1) - n ≡ 0 = omega arith in
+        rw (← ring-ahead n last k h, ← next-round n (last + 1 + k) (omega arith)) (rw e at (ring-round n last (k + 1) (omega arith)))
+  ]
+  | no h ↦ let e : last + 1 + k - n + 1 ≡ last + 1 + (k + 1) - n = omega arith in
+      rw (← ring-round n last k (omega arith), ← next-ahead n (last + 1 + k - n) (omega arith), e) (ring-round n last (k + 1) (omega arith))
+]
+
+first-follows : (n last : ℕ) → last < n → nextSlot n last ≡ ringSlot n last 0
+first-follows n last a = elim (decLt (last + 1) n) [
+  | yes h ↦ let e : last + 1 + 0 ≡ last + 1 = omega arith in rw (← next-ahead n last h) (rw e at (ring-ahead n last 0 (omega arith)))
+  | no h ↦ let e : last + 1 + 0 - n ≡ 0 = omega arith in rw (← next-round n last (omega arith)) (rw e at (ring-round n last 0 (omega arith)))
+]
+
+pub record Turning (p : ℕ → Bool) (n last steps k s : ℕ) : Type 0 where
+  pub rounding : Rounding p n last steps k
+  pub from : last < n
+  pub few : steps ≤ n
+  pub within : s < n
+  pub follows : k < n → nextSlot n s ≡ ringSlot n last k
+
+module _ {wk : List ℕ} {n last steps : ℕ} (z : RingStart wk n last steps) where
+  pub turning-start : (p : ℕ → Bool) → Turning p n last steps 0 last
+  turning-start p = record { rounding = round-start p n last steps; from = z .from; few = z .few; within = z .from; follows = λ h. first-follows n last (z .from) }
+
+  pub turning-ring : {p : ℕ → Bool} {k s : ℕ} → Turning p n last steps k s → Ring n s
+  turning-ring y = record { slots-hi = z .slots-hi; below = y .within }
+
+  pub turning-header : {p : ℕ → Bool} {k s s′ : ℕ} → Turning p n last steps k s → k < steps → s′ ≡ nextSlot n s → HeaderFits wk n s′
+  turning-header y h e = ring-header z h (e ∙ y .follows (omega (arith, z .few)))
+
+module _ {p : ℕ → Bool} {n last steps k s : ℕ} (y : Turning p n last steps k s) where
+  pub turning-end : steps ≤ k → Nothing ≡ firstRound p n last steps
+  turning-end h = round-end (y .rounding) h
+
+  module _ {s′ : ℕ} {r : Bool} (h : k < steps) (e : s′ ≡ nextSlot n s) (t : r ≡ p s′) where
+    is : s′ ≡ ringSlot n last k
+    is = e ∙ y .follows (omega (arith, y .few))
+
+    pub turning-hit : r ≡ true → At s′ ≡ firstRound p n last steps
+    turning-hit f = round-hit (y .rounding) h is t f
+
+    pub turning-next : r ≡ false → Turning p n last steps (k + 1) s′
+    turning-next f =
+        record {
+          rounding = round-next (y .rounding) h is t f;
+          from = y .from;
+          few = y .few;
+          within = rw is (ring-below n last k (y .from) (omega (arith, y .few)));
+          follows = λ l. rw is (slot-follows n last k (y .from) l);
+        }
 
 -- ---- free slots
 module _ (wk : List ℕ) (s : ℕ) {h : Header} {f : Bool} (at : h ≡ header wk s) (fl : f ≡ isFilled h) where
@@ -282,6 +452,6 @@ module _ (z : Sizes) (tr : List ℕ) (e s : ℕ) where
   unfolding taken joined
   taken-done p q r u = rw (u, r, q, p)
 
-pub ruleset finds = (firsts, rounds, shaped-slot, shaped-in, slot-note, slot-working, slot-head, slot-header, job-named, newer-other, newer-free, newer-epoch, live-other, live-not, live-retired, live-slot, sooner-old, sooner-here, sooner-not, ascending-start, ascending-next, lookup-later, lookup-live, lookup-absent, free-no, free-yes, ring-ahead, ring-round, ring-of, ring-header, entered-head, rooms-all, rooms-rest, room-one, room-none, room-two, room-alone)
+pub ruleset finds = (next-ahead, next-round, turning-start, turning-ring, turning-header, turning-end, turning-hit, turning-next, shaped-slot, shaped-in, slot-note, slot-working, slot-head, slot-header, job-named, newer-other, newer-free, newer-epoch, live-other, live-not, live-retired, sooner-old, sooner-here, sooner-not, keys-all, keys-after, key-less, finding-start, finding-next, finding-hit, finding-end, looking-start, looking-next, lookup-later, lookup-live, lookup-absent, free-no, free-yes, entered-head, rooms-all, rooms-rest, room-one, room-none, room-two, room-alone)
 
 pub ruleset fills = (emptying-start, emptying-next, storing-end, slot-of, key-in, value-fits, value-room, key-set, value-set, slot-value, value-slot, slot-after, header-after, filled-value, filled-zeros, note-head, note-slot, note-after, taken-done, joined-done)

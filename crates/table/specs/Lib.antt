@@ -2,4 +2,5 @@ pub mod Find
 pub mod Fill
 pub mod Requires
 pub mod Laws
+pub mod KeyExits
 pub mod Exits

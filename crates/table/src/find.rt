@@ -1,16 +1,16 @@
 // Searches over the table.
-use image::name::Name;
+use image::header::Header;
 use search::Found;
 use transient::sizes::Sizes;
 ghost use mathlib.Core.Path.{_≡_};
 ghost use Prim.Native.Nat.{_+_};
-ghost use Rattle.search.specs.Ring.{ringSlot, firstRound};
+ghost use Rattle.search.specs.Ring.{firstRound};
 ghost use Rattle.image.specs.Name.{jobName, nameAt, sameName};
 ghost use Rattle.image.specs.Requires.{Slot, HeaderFits};
 ghost use Rattle.transient.specs.Store.{table};
 ghost use Rattle.transient.specs.Requires.{Shaped, ShapedSlot, Entered};
 ghost use Rattle.table.specs.Find.{newerAt, liveAt, liveSlot, lookup, freeAt, room};
-ghost use Rattle.table.specs.Requires.{Ring, RingStart, sooner};
+ghost use Rattle.table.specs.Requires.{jobAt, hasKey, firstOfTwo, firstOfFour, keyFrom, Row, KeysFrom, Ring, RingStart, nextSlot, sooner};
 
 // What a key finds for an operation: a later epoch has it, a live slot holds it, or neither.
 pub enum Lookup {
@@ -19,20 +19,80 @@ pub enum Lookup {
     Absent,
 }
 
-// Does the slot have the name of the job `key`?
-fn of_job(working: &[u32], z: Sizes, key: u32, s: usize) -> bool
+fn has_key(working: &[u32], z: Sizes, key: u32, s: usize) -> bool
     requires { ⌜ Slot (now working) (z .n) (z .w) s ⌝ }
-    ensures { λ r. ⌜ r ≡ sameName (nameAt (now (working .entry)) (z .n) (z .w) s) (jobName key) ⌝ }
+    ensures { λ r. ⌜ r ≡ hasKey z (now (working .entry)) key s ⌝ }
 {
-    image::name::named_at(working, z.n, z.w, s, Name::job(key))
+    image::contents::key_at(working, z.n, z.w, s) == key
 }
 
-// The name is looked at first, and of it the key: in most slots it is another one.
-fn newer_at(working: &[u32], z: Sizes, key: u32, e: u32, s: usize) -> bool
-    requires { ⌜ Slot (now working) (z .n) (z .w) s ⌝ }
-    ensures { λ r. ⌜ r ≡ newerAt z (now (working .entry)) (jobName key) e s ⌝ }
+// The first of two slots that has the key.
+fn key_of_two(working: &[u32], z: Sizes, key: u32, s: usize) -> Found
+    requires { ⌜ Row (now working) z s 1 ⌝ }
+    ensures { λ r. ⌜ r ≡ firstOfTwo (hasKey z (now (working .entry)) key) s ⌝ }
 {
-    if of_job(working, z, key, s) {
+    if has_key(working, z, key, s) {
+        return Found::At(s);
+    }
+    if has_key(working, z, key, s + 1) {
+        return Found::At(s + 1);
+    }
+    Found::Nothing
+}
+
+fn key_of_four(working: &[u32], z: Sizes, key: u32, s: usize) -> Found
+    requires { ⌜ Row (now working) z s 3 ⌝ }
+    ensures { λ r. ⌜ r ≡ firstOfFour (hasKey z (now (working .entry)) key) s ⌝ }
+{
+    match key_of_two(working, z, key, s) {
+        Found::At(k) => Found::At(k),
+        Found::Nothing => key_of_two(working, z, key, s + 2),
+    }
+}
+
+// The first slot from one on that has the key, or n.
+fn key_rest(working: &[u32], z: Sizes, key: u32, from: usize) -> usize
+    requires { ⌜ KeysFrom (now working) z from ⌝ }
+    ensures { λ r. ⌜ r ≡ keyFrom z (now (working .entry)) key from ⌝ }
+{
+    let mut s = from;
+    while s < z.n {
+        if has_key(working, z, key, s) {
+            return s;
+        }
+        s += 1;
+    }
+    s
+}
+
+// The same, with four slots in a round.
+fn key_from(working: &[u32], z: Sizes, key: u32, from: usize) -> usize
+    requires { ⌜ KeysFrom (now working) z from ⌝ }
+    ensures { λ r. ⌜ r ≡ keyFrom z (now (working .entry)) key from ⌝ }
+{
+    let mut s = from;
+    while s + 3 < z.n {
+        if let Found::At(k) = key_of_four(working, z, key, s) {
+            return k;
+        }
+        s += 4;
+    }
+    key_rest(working, z, key, s)
+}
+
+// Does the slot have the name of the job of its key? Once the key is known the board is left to look at.
+fn of_job(working: &[u32], z: Sizes, s: usize) -> bool
+    requires { ⌜ Slot (now working) (z .n) (z .w) s ⌝ }
+    ensures { λ r. ⌜ r ≡ sameName (nameAt (now (working .entry)) (z .n) (z .w) s) (jobAt z (now (working .entry)) s) ⌝ }
+{
+    image::header::board_at(working, z.n, s) == Header::JOBS
+}
+
+fn newer_at(working: &[u32], z: Sizes, e: u32, s: usize) -> bool
+    requires { ⌜ Slot (now working) (z .n) (z .w) s ⌝ }
+    ensures { λ r. ⌜ r ≡ newerAt z (now (working .entry)) (jobAt z (now (working .entry)) s) e s ⌝ }
+{
+    if of_job(working, z, s) {
         let h = image::header::header_at(working, z.n, s);
         if image::header::filled(h) {
             e < h.epoch
@@ -44,11 +104,11 @@ fn newer_at(working: &[u32], z: Sizes, key: u32, e: u32, s: usize) -> bool
     }
 }
 
-fn live_at(working: &[u32], transient: &[u32], z: Sizes, key: u32, s: usize) -> bool
+fn live_at(working: &[u32], transient: &[u32], z: Sizes, s: usize) -> bool
     requires { ⌜ ShapedSlot (now working) (now transient) z s ⌝ }
-    ensures { λ r. ⌜ r ≡ liveAt z (table (now (working .entry)) (now (transient .entry))) (jobName key) s ⌝ }
+    ensures { λ r. ⌜ r ≡ liveAt z (table (now (working .entry)) (now (transient .entry))) (jobAt z (now (working .entry)) s) s ⌝ }
 {
-    if of_job(working, z, key, s) {
+    if of_job(working, z, s) {
         let h = image::header::header_at(working, z.n, s);
         if image::header::payload(h) {
             transient::notes::retired_in(transient, z, s) == 0
@@ -65,48 +125,44 @@ pub fn find_live(working: &[u32], transient: &[u32], z: Sizes, key: u32) -> Foun
     requires { ⌜ Shaped (now working) (now transient) z ⌝ }
     ensures { λ r. ⌜ r ≡ liveSlot z (table (now (working .entry)) (now (transient .entry))) (jobName key) ⌝ }
 {
-    let mut s = 0;
+    let mut s = key_from(working, z, key, 0);
     while s < z.n {
-        if live_at(working, transient, z, key, s) {
+        if live_at(working, transient, z, s) {
             return Found::At(s);
         }
-        s += 1;
+        s = key_from(working, z, key, s + 1);
     }
     Found::Nothing
 }
 
 // The first live slot up to s, where `live` is the first one below s, or n.
-fn live_up_to(
-    working: &[u32],
-    transient: &[u32],
-    z: Sizes,
-    key: u32,
-    s: usize,
-    live: usize,
-) -> usize
+fn live_up_to(working: &[u32], transient: &[u32], z: Sizes, s: usize, live: usize) -> usize
     requires { ⌜ ShapedSlot (now working) (now transient) z s ⌝ }
-    ensures { λ r. ⌜ r ≡ sooner (liveAt z (table (now (working .entry)) (now (transient .entry))) (jobName key) s) (z .n) s live ⌝ }
+    ensures { λ r. ⌜ r ≡ sooner (liveAt z (table (now (working .entry)) (now (transient .entry))) (jobAt z (now (working .entry)) s) s) (z .n) s live ⌝ }
 {
-    if live_at(working, transient, z, key, s) {
+    if live_at(working, transient, z, s) {
         if live < z.n { live } else { s }
     } else {
         live
     }
 }
 
-// Both questions in one walk up the table.
+// Both questions in one walk up the table, from one slot with the key to the next.
 pub fn look_up(working: &[u32], transient: &[u32], z: Sizes, key: u32, e: u32) -> Lookup
     requires { ⌜ Shaped (now working) (now transient) z ⌝ }
     ensures { λ r. ⌜ r ≡ lookup z (table (now (working .entry)) (now (transient .entry))) (jobName key) e ⌝ }
 {
+    // Lent anew, the slices come in registers; one that is only handed on comes through memory.
+    let working = &working[..];
+    let transient = &transient[..];
     let mut live = z.n;
-    let mut s = 0;
+    let mut s = key_from(working, z, key, 0);
     while s < z.n {
-        if newer_at(working, z, key, e, s) {
+        if newer_at(working, z, e, s) {
             return Lookup::Later;
         }
-        live = live_up_to(working, transient, z, key, s, live);
-        s += 1;
+        live = live_up_to(working, transient, z, s, live);
+        s = key_from(working, z, key, s + 1);
     }
     if live < z.n {
         Lookup::Live(live)
@@ -127,13 +183,12 @@ fn free_at(working: &[u32], n: usize, s: usize) -> bool
     }
 }
 
-// The slot k steps after the one that follows `last`, round past the end.
-fn ring(n: usize, last: usize, k: usize) -> usize
-    requires { ⌜ Ring n last k ⌝ }
-    ensures { λ r. ⌜ r ≡ ringSlot n last k ⌝ }
+// The slot that follows s, round past the end.
+fn next_slot(n: usize, s: usize) -> usize
+    requires { ⌜ Ring n s ⌝ }
+    ensures { λ r. ⌜ r ≡ nextSlot n s ⌝ }
 {
-    let x = last + 1 + k;
-    if x < n { x } else { x - n }
+    if s + 1 < n { s + 1 } else { 0 }
 }
 
 // The first free slot met going up from the slot after `last`, round past the end, within `steps`.
@@ -142,11 +197,12 @@ pub fn free_slot(working: &[u32], n: usize, last: usize, steps: usize) -> Found
     ensures { λ r. ⌜ r ≡ firstRound (freeAt (now (working .entry))) n last steps ⌝ }
 {
     let mut k = 0;
+    let mut s = last;
     let got = loop {
         if steps <= k {
             break Found::Nothing;
         }
-        let s = ring(n, last, k);
+        s = next_slot(n, s);
         if free_at(working, n, s) {
             break Found::At(s);
         }

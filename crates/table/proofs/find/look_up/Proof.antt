@@ -1,18 +1,16 @@
--- `look_up`: one walk up (`Ascending`).
+-- `look_up`: from one slot with the key to the next (`LookingUp`).
 use borrow.Author.Needs.{needs}
-use Rattle.table.specs.Exits.{finds, Ascending}
+use Rattle.table.specs.Exits.{finds, LookingUp}
 use Prim.Native.Nat.{_-_}
-use Rattle.image.specs.Name.{jobName}
 use Rattle.transient.specs.Store.{table}
-use Rattle.table.specs.Find.{newerAt, liveAt}
 use Rattle.table.proofs.find.look_up.Statement.{statement}
 use Rattle.table.proofs.find.look_up.Tie as tie
 
 abbrev Inv-loop : tie.InvT-loop
-Inv-loop working transient z key e live₀ s₀ live s = Ascending (newerAt z working (jobName key) e) (liveAt z (table working transient) (jobName key)) (z .n) s live
+Inv-loop working transient z key e _ _ live₀ s₀ live s = LookingUp z (table working transient) key e s live
 
 abbrev μ-loop : tie.MeasureT-loop
-μ-loop working transient z key e live₀ s₀ live s = z .n - s
+μ-loop working transient z key e _ _ live₀ s₀ live s = z .n - s
 
 pub look-up-spec : {M : Type 1} → statement M
 look-up-spec =
@@ -20,11 +18,13 @@ look-up-spec =
     (tie.spec
     Inv-loop
     μ-loop
-    (λ c. search (needs, finds))
     (λ c κs. search (needs, finds))
     (λ c. search (needs, finds))
     (λ c κs. search (needs, finds))
     (λ c. search (needs, finds))
+    (λ c κs. search (needs, finds))
+    (λ c. search (needs, finds))
+    (λ c κs. search (needs, finds))
     (λ c. search (needs, finds))
     (λ c. search (needs, finds))
     (λ c. search (needs, finds))

@@ -9,5 +9,4 @@ of-job-spec =
     tie.close
     (tie.spec
     (λ c κs. search (needs, finds))
-    (λ c κs. search (needs, finds))
     (λ c. search (needs, finds)))
