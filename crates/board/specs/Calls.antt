@@ -17,6 +17,6 @@ imageLength n w = cond (sizesOk n w) (imageWords n w) 0
 unfoldable pub transientLength : ℕ → ℕ → ℕ
 transientLength n t = cond (sizesOk n 2 && (leb 1 t && leb t 16)) (transientWords n t) 0
 
--- 0.5.0: the first number by 10,000, the second by 100, the third
+-- 0.6.0: the first number by 10,000, the second by 100, the third
 abbrev pub version : ℕ
-version = 500
+version = 600

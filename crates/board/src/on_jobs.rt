@@ -1,4 +1,5 @@
 // The calls on jobs.
+use job_batch::Batch;
 use reply::Check;
 ghost use mathlib.Core.Path.{_≡_};
 ghost use Rattle.transient.specs.Store.{store, outcome};
@@ -9,6 +10,7 @@ ghost use Rattle.jobs.specs.Job.{job};
 ghost use Rattle.job_new.specs.New.{newJob};
 ghost use Rattle.job_set.specs.Set.{setJob};
 ghost use Rattle.job_delete.specs.Delete.{deleteJob};
+ghost use Rattle.job_batch.specs.Batch.{batchJobs, batchNumber};
 ghost use Rattle.job_read.specs.Read.{readJob, readNumber, readPosition};
 ghost use Rattle.board.specs.Calls.{numbered};
 
@@ -98,6 +100,27 @@ pub extern "C" fn board_delete(
     ensures { λ r. ⌜ outcome r (now (working .exit)) (now (persistent .entry)) (now (transient .exit)) ≡ numbered checkNumber (deleteJob (store (now (working .entry)) (now (persistent .entry)) (now (transient .entry))) thread key) ⌝ }
 {
     reply_number(job_delete::delete(working, persistent, transient, thread, key))
+}
+
+// How many changes were accepted, and 2^32 times the refusal that ended the batch, 0 for none.
+fn batch_number(b: Batch) -> u64
+    ensures { λ r. ⌜ r ≡ batchNumber b ⌝ }
+{
+    let ended = b.ended;
+    b.accepted as u64 + 4294967296 * reply_number(ended) as u64
+}
+
+#[no_mangle]
+pub extern "C" fn board_batch(
+    working: &mut [u32],
+    persistent: &[u32],
+    transient: &mut [u32],
+    thread: u32,
+    changes: &[u32],
+) -> u64
+    ensures { λ r. ⌜ outcome r (now (working .exit)) (now (persistent .entry)) (now (transient .exit)) ≡ numbered batchNumber (batchJobs (store (now (working .entry)) (now (persistent .entry)) (now (transient .entry))) thread (now (changes .entry))) ⌝ }
+{
+    batch_number(job_batch::batch_jobs(working, persistent, transient, thread, changes))
 }
 
 // Where the value starts in the working image, or 2^32 plus the refusal.

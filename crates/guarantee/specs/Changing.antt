@@ -1,7 +1,7 @@
 -- What a call on jobs leaves is good, beside what the reference map makes of its reply: by the shapes that definitions are made of.
 use Prim.Native.Nat.{ℕ, _≤_, _<_}
 use mathlib.Core.Path.{_≡_, refl}
-use mathlib.Core.Bool.{Bool, true, false, cond}
+use mathlib.Core.Bool.{Bool, false, cond}
 use mathlib.Core.Logic.{_≢_}
 use mathlib.Core.List.{List}
 use mathlib.Core.Option.{Option}
@@ -21,19 +21,13 @@ use Rattle.transient.specs.Passed.{inStore, entry-with}
 use Rattle.jobs.specs.declared.way.Way.{Way}
 use Rattle.jobs.specs.declared.way.Way.the-variants.{Open, Declined}
 use Rattle.jobs.specs.Way.{wayIn, byWay}
-use Rattle.jobs.specs.Laws.{way-operating}
+use Rattle.jobs.specs.Laws.{declines-way, way-operating}
 use Rattle.crash.specs.Reference.{Jobs}
 use Rattle.crash.specs.Slots.{Value}
 use Rattle.guarantee.specs.Trace.{Plain, toldChange}
 use Rattle.guarantee.specs.Good.{Good}
 
 -- ---- the shapes
--- a condition that refuses, or what follows
-pub declines-way : (P : Changed → Type 0) (tb : Table) (b : Bool) (r : Refusal) (next : Changed) → P (refused r tb) → (b ≡ false → P next)
-    → P (cond b (refused r tb) next)
-declines-way P tb true r next g h = g
-declines-way P tb false r next g h = h refl
-
 -- the way in: 5, 7 and 8, or the open epoch
 module _ (P : Changed → Type 0) (sz : Sizes) (tb : Table) (thread : ℕ) (bad : Bool) (next : ℕ → Changed) where
   abbrev e : ℕ

@@ -5,17 +5,18 @@ use mathlib.Core.List.{List, [], _∷_}
 use native.Mathlib.Omega.{arith}
 use Rattle.reply.specs.declared.Check.the-variants.{Accepted}
 use Rattle.image.specs.Layout.{slotsOf, clockOf}
+use Rattle.image.specs.Alike.{Alike, unchanged}
 use lib.ListN.{getD, set, length-set}
 use lib.Seq.{getD-set-other}
 use Rattle.transient.specs.Store.{Store, store, tableOf}
 use Rattle.transient.specs.Entry.{entryCheck}
-use Rattle.step.specs.Kept.{Alike, unchanged}
+use Rattle.transient.specs.Again.{images-same}
 use Rattle.advance.specs.Advance.{advance}
 use Rattle.advance.specs.Stages.{mostLines}
 use Rattle.advance.specs.Left.{advance-moves}
 use Rattle.sync.specs.Sync.{syncCheck, byReply}
 use Rattle.sync.specs.Budget.{budget, budget-top, budget-low, budget-on, budget-tick}
-use Rattle.sync.specs.Quiet.{Quiet, images-same, check-quiet, quiet-place, Onward, went, ticked, advance-quiet}
+use Rattle.sync.specs.Quiet.{Quiet, check-quiet, quiet-place, Onward, went, ticked, advance-quiet}
 use Rattle.write_back.specs.WriteBack.{writeBack}
 use Rattle.write_back.specs.Ways.{back-way, back-same}
 use Rattle.guarantee.specs.Trace.{Moment, stay, afterWords, afterWord, toldAdvance, afterAdvance, syncing, syncs, through}

@@ -12,6 +12,7 @@ pub mod Lookups
 pub mod Making
 pub mod Superseding
 pub mod Replacing
+pub mod Batching
 pub mod Queueing
 pub mod Opening
 pub mod Stepping

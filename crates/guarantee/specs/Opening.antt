@@ -18,12 +18,13 @@ use Rattle.transient.specs.Requires.{notes-after}
 use Rattle.transient.specs.Laws.{open-same, open-other, open-slots, open-phase, open-slot, open-uid, open-order, open-long}
 use Rattle.begin_end.specs.Operation.{begin, end}
 use Rattle.begin_end.specs.Stages.{beginSized, endSized}
+use Rattle.jobs.specs.Laws.{declines-way}
 use Rattle.advance.specs.Stages.{underway}
 use Rattle.crash.specs.Reference.{Jobs}
 use Rattle.guarantee.specs.Trace.{Plain, plain, toldBegin, toldEnd}
 use Rattle.guarantee.specs.View.{view, same-view}
 use Rattle.guarantee.specs.Good.{Opens, Good}
-use Rattle.guarantee.specs.Changing.{declines-way, way-way, call-way, sizes-is}
+use Rattle.guarantee.specs.Changing.{way-way, call-way, sizes-is}
 
 -- ---- an open epoch set
 module _ {sz : Sizes} {start : Jobs} {wk l tr : List ℕ} {p : Plain} (thread e : ℕ) (ended′ : List ℕ) (g : Good sz start (store wk l tr) p) (within : thread < sz .t)

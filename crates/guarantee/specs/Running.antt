@@ -16,12 +16,13 @@ use Rattle.advance.specs.Advance.{advance}
 use Rattle.advance.specs.Stages.{mostLines}
 use Rattle.sync.specs.Sync.{syncCheck, byReply}
 use Rattle.crash.specs.Reference.{Jobs}
-use Rattle.guarantee.specs.Trace.{Call, begins, ends, news, sets, deletes, reads, appends, takes, looks, advances, syncs, writesBack, Plain, plain, toldAdvance, Moment, Trace, stay, one, followed, afterAdvance, afterWord, afterWords, syncing, through, run, moments}
+use Rattle.guarantee.specs.Trace.{Call, begins, ends, news, sets, deletes, batches, reads, appends, takes, looks, advances, syncs, writesBack, Plain, plain, toldAdvance, Moment, Trace, stay, one, followed, afterAdvance, afterWord, afterWords, syncing, through, run, moments}
 use Rattle.guarantee.specs.Promise.{jobsOf, Started}
 use Rattle.guarantee.specs.Good.{Good, startOf}
 use Rattle.guarantee.specs.Opening.{begin-good, end-good}
 use Rattle.guarantee.specs.Making.{new-good}
 use Rattle.guarantee.specs.Replacing.{set-good, delete-good}
+use Rattle.guarantee.specs.Batching.{batch-good}
 use Rattle.guarantee.specs.Queueing.{append-good, take-good}
 use Rattle.guarantee.specs.Copying.{write-back-good}
 use Rattle.guarantee.specs.Advancing.{advance-good}
@@ -126,6 +127,7 @@ module _ (sz : Sizes) (start : Jobs) where
   through-good (news thread j) m g = good-one _ (new-good thread j g)
   through-good (sets thread j) m g = good-one _ (set-good thread g j)
   through-good (deletes thread key) m g = good-one _ (delete-good thread g key)
+  through-good (batches thread list) m g = good-one _ (batch-good thread list g)
   through-good (reads thread key) m g = good-one _ g
   through-good (appends thread value) m g = good-one _ (append-good thread value g)
   through-good (takes thread) m g = good-one _ (take-good thread g)

@@ -12,6 +12,7 @@ use Rattle.image.specs.Requires.{heldHeader, heldContents}
 use Rattle.transient.specs.declared.sizes.Sizes.{Sizes}
 use Rattle.transient.specs.Store.{Store, Table, tableOf, sizesOf}
 use Rattle.transient.specs.Calls.{Changed, onStore}
+use Rattle.transient.specs.Passed.{on-persistent}
 use Rattle.begin_end.specs.Operation.{begin, end}
 use Rattle.begin_end.specs.Stages.{beginSized, endSized}
 use Rattle.job_new.specs.New.{newJob}
@@ -20,6 +21,7 @@ use Rattle.job_set.specs.Set.{setJob}
 use Rattle.job_set.specs.Stages.{setOpened, setSized}
 use Rattle.job_delete.specs.Delete.{deleteJob}
 use Rattle.job_delete.specs.Stages.{deleteOpen, deleteSized}
+use Rattle.job_batch.specs.Ways.{batch-persistent}
 use Rattle.queue_append.specs.Append.{appendEntry}
 use Rattle.queue_append.specs.Stages.{badValue, appendSized}
 use Rattle.queue_take.specs.Take.{takeEntry}
@@ -34,8 +36,7 @@ use Rattle.advance.specs.Stages.{mostLines}
 use Rattle.advance.specs.Ways.{nextStep, advance-way}
 use Rattle.sync.specs.Sync.{syncCheck, byReply}
 use Rattle.write_back.specs.Ways.{back-way}
-use Rattle.guarantee.specs.Changing.{call-way}
-use Rattle.guarantee.specs.Trace.{Call, begins, ends, news, sets, deletes, reads, appends, takes, looks, advances, syncs, writesBack, Plain, Moment, Trace, stay, one, followed, told, toldAdvance, afterAdvance, afterWord, afterWords, syncing, through, run}
+use Rattle.guarantee.specs.Trace.{Call, begins, ends, news, sets, deletes, batches, reads, appends, takes, looks, advances, syncs, writesBack, Plain, Moment, Trace, stay, one, followed, told, toldAdvance, afterAdvance, afterWord, afterWords, syncing, through, run}
 
 -- what a call stores: nothing, a slot's header or contents as working holds them, a word of it, a header of zeros, or the clock
 pub data OneStore (m x : Moment) : Type 0 where
@@ -89,7 +90,7 @@ word-one m i = back-way (λ o. OneStore m (told o (λ _ p. p) m)) (m .store) i (
 
 -- "Change calls never store into the lasting image."
 job-none : {p : Plain} (m : Moment) (call : Sizes → Table → Changed) → OneStore m (record { store = onStore (m .store) call .store; plain = p })
-job-none m call = nothing (call-way (λ a. a .store .persistent ≡ m .store .persistent) (m .store) call (λ r. refl) (λ e. refl))
+job-none m call = nothing (on-persistent (m .store) call)
 
 -- ---- a trace: from m through the moments of the list to the last one
 pub data Chain : Moment → List Moment → Moment → Type 0 where
@@ -139,6 +140,7 @@ through-chained (ends thread) m = one-step (job-none m (endSized thread))
 through-chained (news thread j) m = one-step (job-none m (newSized thread j))
 through-chained (sets thread j) m = one-step (job-none m (setSized thread j))
 through-chained (deletes thread key) m = one-step (job-none m (deleteSized thread key))
+through-chained (batches thread list) m = one-step (nothing (batch-persistent (m .store) thread list))
 through-chained (reads thread key) m = one-step (nothing refl)
 through-chained (appends thread value) m = one-step (job-none m (appendSized thread value))
 through-chained (takes thread) m = one-step (job-none m (takeSized thread))

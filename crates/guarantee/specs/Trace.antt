@@ -11,12 +11,14 @@ use Rattle.reply.specs.Refusals.{byCheck}
 use Rattle.image.specs.Layout.{keyAt, slotsOf, clockOf}
 use Rattle.image.specs.declared.name.Name.{Name}
 use Rattle.image.specs.Name.{jobName, entryName}
+use Rattle.transient.specs.declared.sizes.Sizes.{Sizes}
 use Rattle.transient.specs.Store.{Store, tableOf, sizesOf, Outcome}
 use Rattle.begin_end.specs.Operation.{begin, end}
 use Rattle.jobs.specs.Job.{Job}
 use Rattle.job_new.specs.New.{newJob}
 use Rattle.job_set.specs.Set.{setJob}
 use Rattle.job_delete.specs.Delete.{deleteJob}
+use Rattle.job_batch.specs.Batch.{changeAt, kindOf, jobOf, batchJobs}
 use Rattle.queue.specs.Front.{frontSlot}
 use Rattle.queue_append.specs.declared.Append.{Append}
 use Rattle.queue_append.specs.declared.Append.the-variants.{Given, Declined}
@@ -36,6 +38,7 @@ pub data Call : Type 0 where
   news : (thread : ℕ) (j : Job) → Call
   sets : (thread : ℕ) (j : Job) → Call
   deletes : (thread : ℕ) (key : ℕ) → Call
+  batches : (thread : ℕ) (list : List ℕ) → Call
   reads : (thread : ℕ) (key : ℕ) → Call
   appends : (thread : ℕ) (value : List ℕ) → Call
   takes : (thread : ℕ) → Call
@@ -70,6 +73,13 @@ abbrev pub toldChange : ℕ → Name → Option (List ℕ) → Check → Plain �
 toldChange thread name v k p =
     byCheck k (λ _. p)
     (plain (p .clock) (p .operation) (p .row ++ (record { epoch = p .operation thread; name = name; value = v } ∷ [])) (p .ended) (p .durable))
+
+-- 02, No. 5: "for the guarantee after a cut it counts as these": the first k changes of a list, each as its own call's
+unfoldable pub toldChanges : Sizes → ℕ → List ℕ → ℕ → Plain → Plain
+toldChanges z thread list zero p = p
+toldChanges z thread list (suc k) p =
+    let c = changeAt z list k in
+    toldChange thread (jobName (jobOf c .key)) (cond (eqb (kindOf c) 3) none (some (jobOf c .value))) Accepted (toldChanges z thread list k p)
 
 -- 02, No. 3: "each entry under the order number that its append was given": an accepted append adds the entry of its reply
 abbrev pub toldAppend : ℕ → List ℕ → Append → Plain → Plain
@@ -136,6 +146,8 @@ through (ends thread) m = one (told (end (m .store) thread) (toldEnd thread) m)
 through (news thread j) m = one (told (newJob (m .store) thread j) (toldChange thread (jobName (j .key)) (some (j .value))) m)
 through (sets thread j) m = one (told (setJob (m .store) thread j) (toldChange thread (jobName (j .key)) (some (j .value))) m)
 through (deletes thread key) m = one (told (deleteJob (m .store) thread key) (toldChange thread (jobName key) none) m)
+through (batches thread list) m =
+    one (told (batchJobs (m .store) thread list) (λ b. toldChanges (sizesOf (tableOf (m .store))) thread list (b .accepted)) m)
 through (reads thread key) m = one m
 through (appends thread value) m = one (told (appendEntry (m .store) thread value) (toldAppend thread value) m)
 through (takes thread) m = one (told (takeEntry (m .store) thread) (toldChange thread (entryName (frontOrder (m .store))) none) m)

@@ -15,7 +15,7 @@ use Rattle.image.specs.declared.header.Header.{Header}
 use Rattle.image.specs.declared.name.Name.{Name}
 use Rattle.image.specs.Layout.{mostNumber, queueBoard, headerAt, contentsAt, imageWords, headerOf, isBlank, hasZero, isFilled, isPayload, header, contents, keyAt, slotsOf, widthOf, sizesOk, shapeOk}
 use Rattle.image.specs.Line.{headerLine, contentsLine, clockLine, stored, storeLine}
-use Rattle.image.specs.Name.{nameOf, nameAt, sameName, misnamed}
+use Rattle.image.specs.Name.{nameOf, nameAt, misnamed}
 use Rattle.image.specs.Requires.{kindAt, epochAt, uidAt, boardAt, InRange, Slot, SlotOf, Slots, SlotLine, slot, header-fits, slot-of}
 use Rattle.image.specs.Bytes.{wordsOf, Byte, InWords, Decodes, words-length, words-at}
 use Rattle.image.specs.InPlace.{place-word, place-kind, place-key, place-slot, place-header, place-name, head-word}
@@ -130,15 +130,6 @@ pub name-made : (l : List ℕ) (n w s : ℕ) {b k : ℕ} → b ≡ boardAt l s �
 unfolding nameAt keyAt header
 name-made l n w s b k = rw (b, k)
 
-module _ (l : List ℕ) (n w s : ℕ) (name : Name) {k : ℕ} (is : k ≡ keyAt l n w s) where
-  pub named-board : {b : ℕ} → k ≡ name .key → b ≡ boardAt l s → eqb b (name .board) ≡ sameName (nameAt l n w s) name
-  unfolding sameName nameAt keyAt header
-  named-board q b = rw (← is, ← b, eq-eqb k (name .key) q)
-
-  pub named-other : (k ≡ name .key → ⊥) → false ≡ sameName (nameAt l n w s) name
-  unfolding sameName nameAt keyAt
-  named-other q = rw (← is, ne-eqb k (name .key) q)
-
 module _ (name : Name) where
   pub bad-zero : name .key ≡ 0 → true ≡ misnamed name
   unfolding misnamed
@@ -201,4 +192,4 @@ module _ (bytes : List ℕ) {a b n w : ℕ} {r : Bool} (p : a ≡ getD (wordsOf 
 
 pub ruleset places = (place-word, place-kind, place-key, place-slot, place-header, place-name, head-word, place-short, place-sizes, place-fits)
 
-pub ruleset laws = (tests, storings, slot, header-fits, slot-of, header-is, header-stored, contents-fits, contents-top, key-in, key-is, line-room, line-slot, contents-stored, part-end, part-slot, part-line, part-copied, name-made, named-board, named-other, bad-zero, bad-entry, bad-none, clock-stored, area-fits, whole-fits, sizes-true, shape-short, shape-sizes, shape-long, in-words, word-made)
+pub ruleset laws = (tests, storings, slot, header-fits, slot-of, header-is, header-stored, contents-fits, contents-top, key-in, key-is, line-room, line-slot, contents-stored, part-end, part-slot, part-line, part-copied, name-made, bad-zero, bad-entry, bad-none, clock-stored, area-fits, whole-fits, sizes-true, shape-short, shape-sizes, shape-long, in-words, word-made)

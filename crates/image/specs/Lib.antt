@@ -3,6 +3,7 @@ pub mod Line
 pub mod Name
 pub mod Requires
 pub mod Laws
+pub mod Alike
 pub mod Whole
 pub mod Torn
 pub mod Bytes

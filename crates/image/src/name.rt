@@ -1,7 +1,7 @@
 // Whose slot it is.
 use crate::header::Header;
 ghost use mathlib.Core.Path.{_≡_};
-ghost use Rattle.image.specs.Name.{jobName, entryName, nameAt, sameName, misnamed};
+ghost use Rattle.image.specs.Name.{jobName, entryName, nameAt, misnamed};
 ghost use Rattle.image.specs.Requires.{Slot};
 
 // The name of a job or of a queue's entry: a board, and a key on it.
@@ -53,17 +53,5 @@ pub fn name_at(img: &[u32], n: usize, w: usize, s: usize) -> Name
     Name {
         board: crate::header::board_at(img, n, s),
         key: crate::contents::key_at(img, n, w, s),
-    }
-}
-
-// Does the slot have this name?
-pub fn named_at(img: &[u32], n: usize, w: usize, s: usize, name: Name) -> bool
-    requires { ⌜ Slot (now img) n w s ⌝ }
-    ensures { λ r. ⌜ r ≡ sameName (nameAt (now (img .entry)) n w s) name ⌝ }
-{
-    if crate::contents::key_at(img, n, w, s) == name.key {
-        crate::header::board_at(img, n, s) == name.board
-    } else {
-        false
     }
 }

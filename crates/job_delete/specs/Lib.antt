@@ -1,4 +1,5 @@
 pub mod Delete
 pub mod Stages
 pub mod Keeps
+pub mod Again
 pub mod Exits

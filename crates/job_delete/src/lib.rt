@@ -72,7 +72,8 @@ pub fn delete_at(
     cover(working, transient, z, e, s, key)
 }
 
-fn delete_open(working: &mut [u32], transient: &mut [u32], z: Sizes, e: u32, key: u32) -> Check
+// With an operation open: the key has been judged.
+pub fn delete_open(working: &mut [u32], transient: &mut [u32], z: Sizes, e: u32, key: u32) -> Check
     requires { ⌜ Entered (now working) (now transient) z ⌝ }
     ensures { λ r. ⌜ changed r (now (working .exit)) (now (transient .exit)) ≡ deleteOpen z (table (now (working .entry)) (now (transient .entry))) key e ⌝ }
 {

@@ -67,7 +67,8 @@ fn new_absent(
     new_in_room(working, transient, z, e, key, value)
 }
 
-fn new_open(
+// With an operation open: key and value have been judged.
+pub fn new_open(
     working: &mut [u32],
     transient: &mut [u32],
     z: Sizes,
@@ -78,6 +79,7 @@ fn new_open(
     requires { ⌜ Valued (now working) (now transient) z (now value) ⌝ }
     ensures { λ r. ⌜ changed r (now (working .exit)) (now (transient .exit)) ≡ newOpen z (table (now (working .entry)) (now (transient .entry))) (job key (now (value .entry))) e ⌝ }
 {
+    let value = &value[..];
     match table::find::look_up(working, transient, z, key, e) {
         Lookup::Later => Check::Refused(Refusal::Newer),
         Lookup::Live(_) => Check::Refused(Refusal::JobExists),

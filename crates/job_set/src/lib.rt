@@ -74,7 +74,8 @@ fn set_at(
     }
 }
 
-fn set_open(
+// With an operation open: key and value have been judged.
+pub fn set_open(
     working: &mut [u32],
     transient: &mut [u32],
     z: Sizes,
@@ -85,6 +86,7 @@ fn set_open(
     requires { ⌜ Valued (now working) (now transient) z (now value) ⌝ }
     ensures { λ r. ⌜ changed r (now (working .exit)) (now (transient .exit)) ≡ setOpened z (table (now (working .entry)) (now (transient .entry))) (job key (now (value .entry))) e ⌝ }
 {
+    let value = &value[..];
     match table::find::look_up(working, transient, z, key, e) {
         Lookup::Later => Check::Refused(Refusal::Newer),
         Lookup::Live(s) => set_at(working, transient, z, e, s, key, value),

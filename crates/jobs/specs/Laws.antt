@@ -67,3 +67,9 @@ module _ (z : Sizes) (tb : Table) (thread : ℕ) (bad : Bool) (next : ℕ → Ch
 
   pub way-open : {e : ℕ} {x : Changed} → k ≡ Open e → x ≡ next e → x ≡ byWay (wayIn z (tb .transient) thread bad) tb next
   way-open a p = rw (← way, a) p
+
+-- ---- a condition that refuses, or what follows
+pub declines-way : (P : Changed → Type 0) (tb : Table) (b : Bool) (r : Refusal) (next : Changed) → P (refused r tb) → (b ≡ false → P next)
+    → P (cond b (refused r tb) next)
+declines-way P tb true r next g h = g
+declines-way P tb false r next g h = h refl

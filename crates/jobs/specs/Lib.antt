@@ -3,4 +3,5 @@ pub mod Way
 pub mod Requires
 pub mod Laws
 pub mod Keeps
+pub mod Again
 pub mod Exits

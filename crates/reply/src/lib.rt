@@ -15,7 +15,7 @@ pub enum Refusal {
     NoThread,
     AlreadyOpen,
     NotOpen,
-    // key 0, or a value of a wrong length
+    // key 0, a value or a list of a wrong length, or an unknown kind of change
     BadArgument,
     // a later epoch has this key, or an entry of the queue, already
     Newer,

@@ -1,13 +1,11 @@
 -- What a step leaves as it was, and what it does to the clocks.
 use Prim.Native.Nat.{ℕ, _+_, _-_, _≤_}
 use mathlib.Core.Path.{_≡_, refl}
-use mathlib.Core.List.{List}
 use lib.ListN.{length}
 use native.Mathlib.Omega.{arith}
-use Rattle.image.specs.declared.header.Header.{Header}
-use Rattle.image.specs.Layout.{slotsOf, widthOf, clockOf}
-use Rattle.image.specs.Line.{headerLine, contentsLine, clockLine, storeLine}
-use Rattle.image.specs.Laws.{length-store, front-past-header, front-past-contents, word-past-clock, clock-same}
+use Rattle.image.specs.Layout.{clockOf}
+use Rattle.image.specs.Laws.{front-past-header, front-past-contents, clock-same}
+use Rattle.image.specs.Alike.{Alike, unchanged, header-alike, contents-alike, clock-alike}
 use Rattle.transient.specs.declared.sizes.Sizes.{Sizes}
 use Rattle.transient.specs.Laws.{FrontKept, front-same, retired-front, emptied-front}
 use Rattle.transient.specs.Store.{Store}
@@ -15,26 +13,6 @@ use Rattle.step.specs.declared.Place.{Place}
 use Rattle.step.specs.declared.Advance.the-variants.{WentOn, Ticked}
 use Rattle.step.specs.Step.{Stepped, reclaimed, contentsFlushed, headerFlushed, ticking, step}
 use Rattle.step.specs.Ways.{every-way}
-
--- ---- what a line leaves of an image: its length and its sizes
-pub record Alike (l l′ : List ℕ) : Type 0 where
-  pub long : length l′ ≡ length l
-  pub slots : slotsOf l′ ≡ slotsOf l
-  pub width : widthOf l′ ≡ widthOf l
-
-module _ (l : List ℕ) where
-  pub unchanged : Alike l l
-  unchanged = record { long = refl; slots = refl; width = refl }
-
-  pub header-alike : (s : ℕ) (h : Header) → Alike l (storeLine l (headerLine s h))
-  header-alike s h = record { long = length-store l _; slots = front-past-header l s 0 h (omega arith); width = front-past-header l s 1 h (omega arith) }
-
-  pub contents-alike : (n w s : ℕ) (words : List ℕ) → Alike l (storeLine l (contentsLine n w s words))
-  contents-alike n w s words =
-      record { long = length-store l _; slots = front-past-contents l n w s 0 words (omega arith); width = front-past-contents l n w s 1 words (omega arith) }
-
-  clock-alike : (c : ℕ) → Alike l (storeLine l (clockLine c))
-  clock-alike c = record { long = length-store l _; slots = word-past-clock l c 0 (λ q. omega arith); width = word-past-clock l c 1 (λ q. omega arith) }
 
 -- ---- what a step leaves as it was: the sizes, and the notes before the slots' notes
 pub record Steady (z : Sizes) (st : Store) (x : Stepped) : Type 0 where

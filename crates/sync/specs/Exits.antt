@@ -16,7 +16,6 @@ use Rattle.reply.specs.declared.Refusal.{Refusal}
 use Rattle.reply.specs.declared.Refusal.the-variants.{StillOpen, LastEpoch}
 use Rattle.image.specs.Layout.{mostSlots, mostNumber, slotsOf, clockOf}
 use Rattle.transient.specs.declared.sizes.Sizes.{Sizes}
-use Rattle.transient.specs.Layout.{note, placeAt}
 use Rattle.transient.specs.Store.{Store, store, table, sizesOf, Outcome, outcome}
 use Rattle.transient.specs.Entry.{entryCheck}
 use Rattle.transient.specs.Requires.{Sizable, EnteredWith, entered-notes, entered-front}

@@ -1,29 +1,28 @@
 -- A store on which a sync is underway: with no operation open each of its advance calls is accepted, and leaves such a store.
 use Prim.Native.Nat.{ℕ, suc, _+_, _-_, _≤_, _<_}
-use mathlib.Core.Path.{_≡_, refl, sym, ap, _∙_}
+use mathlib.Core.Path.{_≡_, refl, sym, _∙_}
 use mathlib.Core.Bool.{Bool, true, false, not, _&&_}
 use mathlib.Core.List.{List}
-use lib.ListN.{length}
 use lib.Dec.{ltb, eqb}
-use borrow.Author.Tests.{le-leb, lt-ltb, eq-eqb, ne-eqb, eqb-true, ltb-false, not-false}
+use borrow.Author.Tests.{le-leb, eq-eqb, ne-eqb, eqb-true, ltb-false, not-false}
 use native.Mathlib.Omega.{arith}
-use Rattle.search.specs.Bools.{and-left, and-right, and-both}
 use Rattle.search.specs.Some.{anyOf, some-none, none-some, at-every}
 use Rattle.reply.specs.declared.Check.the-variants.{Accepted}
-use Rattle.reply.specs.declared.Refusal.the-variants.{BadSizes, BadClock, StillOpen, LastEpoch}
+use Rattle.reply.specs.declared.Refusal.the-variants.{StillOpen, LastEpoch}
 use Rattle.reply.specs.Refusals.{refuse, not-refused, both-accepted}
-use Rattle.image.specs.Layout.{mostNumber, slotsOf, clockOf, shapeOk, clockOk}
+use Rattle.image.specs.Layout.{mostNumber, slotsOf, clockOf, clockOk}
 use Rattle.transient.specs.declared.sizes.Sizes.{Sizes}
-use Rattle.transient.specs.Layout.{note, slotsAt, lastAt, nextUidAt, nextOrderAt, placeAt, openEpoch, threadsOk}
-use Rattle.transient.specs.Laws.{place-long, place-noted, place-last, place-uid, place-order, place-opens, slot-set}
+use Rattle.transient.specs.Layout.{note, placeAt, openEpoch}
+use Rattle.transient.specs.Laws.{place-long}
 use Rattle.transient.specs.Store.{Store, store, table, tableOf, sizesOf, outcome}
-use Rattle.transient.specs.Entry.{imagesFit, notesFit, opensOk, entryCheck}
-use Rattle.transient.specs.Requires.{sizesFit, openOk, clocksFit, EnteredWith, notes-after}
+use Rattle.transient.specs.Entry.{opensOk, entryCheck}
+use Rattle.transient.specs.Requires.{openOk, clocksFit, EnteredWith}
 use Rattle.transient.specs.Passed.{entry-with, sized-with}
+use Rattle.transient.specs.Again.{NotesKept, entry-passes, passes-entry, clocks-agree, sizes-again, notes-kept, kept-front, kept-place}
 use Rattle.step.specs.declared.Advance.{Advance}
 use Rattle.step.specs.declared.Advance.the-variants.{WentOn, Ticked}
 use Rattle.step.specs.Step.{Stepped}
-use Rattle.step.specs.Kept.{Alike, Steady, Clocked, on, tick}
+use Rattle.step.specs.Kept.{Steady, Clocked, on, tick}
 use Rattle.advance.specs.Advance.{noted, advance}
 use Rattle.advance.specs.Stages.{underway, openBelow, heldCheck, advanceSized, advance-is, notedPlace}
 use Rattle.advance.specs.Ways.{nextStep}
@@ -42,40 +41,12 @@ pub record Ready (ticks : ℕ) (wk l tr : List ℕ) (z : Sizes) : Type 0 where
   pub quiet : Quiet ticks (store wk l tr)
   pub sizes : z ≡ sizesOf (table wk tr)
 
--- the two tests of the entry check
-record Passes (st : Store) : Type 0 where
-  sizes : sizesFit (st .working) (st .persistent) (st .transient) ≡ true
-  clocks : clocksFit (st .working) (st .persistent) (st .transient) (sizesOf (tableOf st) .t) ≡ true
-
-entry-passes : (st : Store) → entryCheck st ≡ Accepted → Passes st
-unfolding entryCheck sizesFit clocksFit
-entry-passes st a =
-    let fit = sizesFit (st .working) (st .persistent) (st .transient) in
-    let clocks = clocksFit (st .working) (st .persistent) (st .transient) (sizesOf (tableOf st) .t) in
-    let first = not-refused (not fit) BadSizes (refuse (not clocks) BadClock Accepted) a in
-    record { sizes = not-false fit (first .0); clocks = not-false clocks (not-refused (not clocks) BadClock Accepted (first .1) .0) }
-
-passes-entry : {st : Store} → Passes st → entryCheck st ≡ Accepted
-unfolding entryCheck sizesFit clocksFit
-passes-entry y = rw (y .sizes, y .clocks)
-
-pub images-same : {wk l wk′ l′ : List ℕ} → Alike wk wk′ → Alike l l′ → imagesFit wk′ l′ ≡ imagesFit wk l
-unfolding imagesFit shapeOk
-images-same a b = rw (a .long, a .slots, a .width, b .long, b .slots, b .width)
-
 -- clocks that agree, in range, with nothing open
 clocks-fit : (wk l tr : List ℕ) (t c : ℕ) → clockOf wk ≡ c → clockOf l ≡ c → 2 ≤ c → c ≤ mostNumber → ((u : ℕ) → u < t → openEpoch tr u ≡ 0) → clocksFit wk l tr t ≡ true
 unfolding clocksFit clockOk opensOk openOk
 clocks-fit wk l tr t c a b lo hi none =
     rw (a, b, le-leb 2 c lo, le-leb c mostNumber hi, eq-eqb c c refl)
     (at-every (λ u. openOk c (openEpoch tr u)) t (λ u h. rw (none u h)))
-
-clocks-agree : (wk l tr : List ℕ) (t : ℕ) → clocksFit wk l tr t ≡ true → clockOf l ≡ clockOf wk
-unfolding clocksFit
-clocks-agree wk l tr t e =
-    let k = clockOk (clockOf wk) in
-    let q = eqb (clockOf l) (clockOf wk) in
-    eqb-true _ _ (and-left q _ (and-right k _ e))
 
 -- a step noted leaves the sizes
 noted-sizes : (st : Store) (x : Stepped) → Steady (sizesOf (tableOf st)) st x → sizesOf (tableOf (noted x .store)) ≡ sizesOf (tableOf st)
@@ -85,59 +56,28 @@ noted-sizes st x s = rw (place-long (x .store .transient) (sizesOf (tableOf st))
 -- .. and refusals 1 and 2 pass again
 module _ (st : Store) (x : Stepped) (ok : entryCheck st ≡ Accepted) (s : Steady (sizesOf (tableOf st)) st x) (within : x .place .slot < slotsOf (st .working)) (c : ℕ)
     (clock-w : clockOf (x .store .working) ≡ c) (clock-l : clockOf (x .store .persistent) ≡ c) (lo : 2 ≤ c) (none : (u : ℕ) → u < sizesOf (tableOf st) .t → openEpoch (st .transient) u ≡ 0) where
+  abbrev z : Sizes
+  z = sizesOf (tableOf st)
+
   abbrev tr : List ℕ
   tr = noted x .store .transient
 
-  long : length tr ≡ length (st .transient)
-  long = place-long (x .store .transient) (sizesOf (tableOf st)) _ _ ∙ s .notes .head .long
-
-  threads-is : sizesOf (tableOf (noted x .store)) .t ≡ sizesOf (tableOf st) .t
-  threads-is = ap (λ z. z .t) (noted-sizes st x s)
-
   -- the place alone was written
-  slots-is : note slotsAt tr ≡ note slotsAt (st .transient)
-  slots-is = place-noted (x .store .transient) (sizesOf (tableOf st)) _ _ ∙ s .notes .noted
-
-  last-is : note lastAt tr ≡ note lastAt (st .transient)
-  last-is = place-last (x .store .transient) (sizesOf (tableOf st)) _ _ ∙ s .notes .last
-
-  uid-is : note nextUidAt tr ≡ note nextUidAt (st .transient)
-  uid-is = place-uid (x .store .transient) (sizesOf (tableOf st)) _ _ ∙ s .notes .uid
-
-  order-is : note nextOrderAt tr ≡ note nextOrderAt (st .transient)
-  order-is = place-order (x .store .transient) (sizesOf (tableOf st)) _ _ ∙ s .notes .order
-
-  place-is : note placeAt tr ≡ x .place .slot
-  place-is =
-      let y = entry-with (st .working) (st .persistent) (st .transient) ok .entered .shaped .notes in
-      slot-set (notes-after (s .notes .head .long) y) (x .place .phase) (x .place .slot)
+  notes-after-step : NotesKept z (st .transient) tr
+  unfolding sizesOf
+  notes-after-step =
+      let y = entry-with (st .working) (st .persistent) (st .transient) ok .entered in
+      kept-place (kept-front (notes-kept y) (s .notes)) (y .shaped .notes) (x .place .phase) (x .place .slot) within
 
   none-after : (u : ℕ) → u < sizesOf (tableOf (noted x .store)) .t → openEpoch tr u ≡ 0
   none-after u h =
-      let k : u < sizesOf (tableOf st) .t = rw threads-is at h in
-      place-opens (x .store .transient) (sizesOf (tableOf st)) _ _ u ∙ s .notes .head .opens u k ∙ none u k
-
-  sizes-after : sizesFit (x .store .working) (x .store .persistent) tr ≡ true
-  unfolding sizesFit notesFit
-  sizes-after =
-      let n = slotsOf (st .working) in
-      let fit = entry-passes st ok .sizes in
-      let images = imagesFit (st .working) (st .persistent) in
-      let threaded = threadsOk (length (st .transient)) n in
-      let rest = and-right images _ fit in
-      let notes = and-right threaded _ rest in
-      let slots = eqb (note slotsAt (st .transient)) n in
-      let more = and-right slots _ notes in
-      let last = ltb (note lastAt (st .transient)) n in
-      let placed = ltb (note placeAt (st .transient)) n in
-      rw (images-same (s .working) (s .persistent), long, s .working .slots, slots-is, last-is, place-is, uid-is, order-is)
-      (and-both (and-left images _ fit) (and-both (and-left threaded _ rest)
-      (and-both (and-left slots _ notes) (and-both (and-left last _ more) (and-both (lt-ltb _ _ within) (and-right placed _ (and-right last _ more)))))))
+      let k : u < z .t = rw (noted-sizes st x s) at h in
+      notes-after-step .opens u k ∙ none u k
 
   noted-quiet : (ticks : ℕ) → c + ticks ≤ mostNumber → Quiet ticks (noted x .store)
   noted-quiet ticks h =
       record {
-        entry = passes-entry (record { sizes = sizes-after; clocks = clocks-fit (x .store .working) (x .store .persistent) tr _ c clock-w clock-l lo (omega arith) none-after });
+        entry = passes-entry (record { sizes = sizes-again (entry-passes st ok .sizes) (s .working) (s .persistent) notes-after-step; clocks = clocks-fit (x .store .working) (x .store .persistent) tr _ c clock-w clock-l lo (omega arith) none-after });
         none-open = none-after;
         room = omega (arith, clock-w);
       }

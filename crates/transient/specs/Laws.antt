@@ -189,6 +189,9 @@ module _ (tr : List ℕ) (z : Sizes) where
     pub last-slots : (m : ℕ) → SlotKept z tr (setNote lastAt tr s) m
     last-slots = slot-kept (last-only tr s) z (omega arith)
 
+    pub last-noted : note slotsAt (setNote lastAt tr s) ≡ note slotsAt tr
+    last-noted = last-only tr s .words slotsAt (inl (omega arith))
+
     pub last-uid : note nextUidAt (setNote lastAt tr s) ≡ note nextUidAt tr
     last-uid = uid-kept (last-only tr s) (inl (omega arith))
 
@@ -201,6 +204,12 @@ module _ (tr : List ℕ) (z : Sizes) where
 
     pub uid-slots : (m : ℕ) → SlotKept z tr (setNote nextUidAt tr u) m
     uid-slots = slot-kept (uid-only tr u) z (omega arith)
+
+    pub uid-noted : note slotsAt (setNote nextUidAt tr u) ≡ note slotsAt tr
+    uid-noted = uid-only tr u .words slotsAt (inl (omega arith))
+
+    pub uid-last : note lastAt (setNote nextUidAt tr u) ≡ note lastAt tr
+    uid-last = uid-only tr u .words lastAt (inl (omega arith))
 
     pub uid-order : note nextOrderAt (setNote nextUidAt tr u) ≡ note nextOrderAt tr
     uid-order = order-kept (uid-only tr u) (inl (omega arith))
@@ -319,6 +328,10 @@ module _ (len n u x : ℕ) where
 
 -- ---- each writer's own note
 module _ {tr : List ℕ} {z : Sizes} (y : Notes tr z) where
+  pub last-set : (s : ℕ) → note lastAt (setNote lastAt tr s) ≡ s
+  unfolding setNote
+  last-set s = getD-set-same tr lastAt s 0 (omega (arith, y .long))
+
   pub uid-set : (u : ℕ) → note nextUidAt (setNote nextUidAt tr u) ≡ u
   unfolding setNote
   uid-set u = getD-set-same tr nextUidAt u 0 (omega (arith, y .long))

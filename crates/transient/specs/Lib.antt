@@ -6,4 +6,5 @@ pub mod Requires
 pub mod Laws
 pub mod Clearing
 pub mod Passed
+pub mod Again
 pub mod Exits

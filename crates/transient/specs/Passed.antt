@@ -18,7 +18,7 @@ use Rattle.image.specs.Requires.{Sized}
 use Rattle.image.specs.Laws.{shaped}
 use Rattle.transient.specs.declared.sizes.Sizes.{Sizes}
 use Rattle.transient.specs.Layout.{threadsOf, threadsOk, note, slotsAt, lastAt, nextUidAt, nextOrderAt, placeAt}
-use Rattle.transient.specs.Store.{Store, Table, store, table, sizesOf, Outcome, outcome, afterCheck}
+use Rattle.transient.specs.Store.{Store, Table, store, table, tableOf, sizesOf, Outcome, outcome, afterCheck}
 use Rattle.transient.specs.Entry.{imagesFit, nextOk, notesFit, entryCheck}
 use Rattle.transient.specs.Calls.{Changed, changed, onStore}
 use Rattle.transient.specs.Requires.{sizesFit, clocksFit, Notes, Sizable, Entered, EnteredWith}
@@ -127,6 +127,14 @@ sized-with y e = rw e y
 -- what the call's own part made, beside the persistent image
 abbrev pub inStore : Store → Changed → Outcome Check
 inStore st ch = outcome (ch .reply) (ch .table .working) (st .persistent) (ch .table .transient)
+
+-- "Change calls never store into the lasting image."
+pub on-persistent : (st : Store) (call : Sizes → Table → Changed) → onStore st call .store .persistent ≡ st .persistent
+on-persistent st call = go (entryCheck st)
+  where
+    go : (k : Check) → afterCheck k Refused st (inStore st (call (sizesOf (tableOf st)) (tableOf st))) .store .persistent ≡ st .persistent
+    go Accepted = refl
+    go (Refused r) = refl
 
 module _ (wk l tr : List ℕ) {k : Check} (c : k ≡ entryCheck (store wk l tr)) where
   pub entry-entered : k ≡ Accepted → Entered wk tr (sizesOf (table wk tr))

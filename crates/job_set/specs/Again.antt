@@ -1,0 +1,43 @@
+-- After a set the store passes refusals 1 and 2 again.
+use Prim.Native.Nat.{ℕ}
+use mathlib.Core.Path.{_≡_}
+use mathlib.Core.Bool.{true, false}
+use mathlib.Core.Logic.{⊎-elim}
+use mathlib.Core.List.{List}
+use lib.Dec.{eqb}
+use Rattle.search.specs.Bools.{cases}
+use Rattle.image.specs.Layout.{header}
+use Rattle.image.specs.Name.{jobName}
+use Rattle.transient.specs.declared.sizes.Sizes.{Sizes}
+use Rattle.transient.specs.Store.{table}
+use Rattle.transient.specs.Calls.{Changed}
+use Rattle.transient.specs.Requires.{Entered}
+use Rattle.transient.specs.Again.{TableKept, table-kept}
+use Rattle.table.specs.declared.find.Lookup.{Lookup}
+use Rattle.table.specs.declared.find.Lookup.the-variants.{Later, Live, Absent}
+use Rattle.table.specs.Find.{lookup}
+use Rattle.jobs.specs.Job.{Job}
+use Rattle.jobs.specs.Again.{waiting-kept, value-kept, super-kept}
+use Rattle.job_set.specs.Set.{setAt}
+use Rattle.job_set.specs.Stages.{rewritten, updated, set-at-is, setLooked, setOpened}
+
+module _ {wk tr : List ℕ} {z : Sizes} (y : Entered wk tr z) (e : ℕ) (j : Job) where
+  abbrev Kept : Changed → Type 0
+  Kept c = TableKept z (table wk tr) (c .table)
+
+  at-kept : (s : ℕ) → Kept (setAt z (table wk tr) e s j)
+  unfolding rewritten updated
+  at-kept s =
+      ⊎-elim
+      (λ (a : eqb (header wk s .epoch) e ≡ true). rw (set-at-is z (table wk tr) e s j, a) (value-kept y (waiting-kept y e s) s (j .value)))
+      (λ (a : eqb (header wk s .epoch) e ≡ false). rw (set-at-is z (table wk tr) e s j, a) (super-kept y 2 e s _ _))
+      (cases (eqb (header wk s .epoch) e))
+
+  looked-kept : (k : Lookup) → Kept (setLooked k z (table wk tr) e j)
+  looked-kept Later = table-kept y
+  looked-kept (Live s) = at-kept s
+  looked-kept Absent = table-kept y
+
+  pub set-kept : Kept (setOpened z (table wk tr) j e)
+  unfolding setOpened
+  set-kept = looked-kept (lookup z (table wk tr) (jobName (j .key)) e)

@@ -1,0 +1,72 @@
+-- A change that fills, rewrites or frees a slot leaves a store that passes refusals 1 and 2 again (`TableKept`).
+use Prim.Native.Nat.{ℕ, _+_, _≤_, _<_}
+use mathlib.Core.Path.{_≡_, refl}
+use mathlib.Core.List.{List, _∷_}
+use native.Mathlib.Omega.{arith}
+use Rattle.search.specs.declared.Found.{Found}
+use Rattle.search.specs.declared.Found.the-variants.{At, Nothing}
+use Rattle.image.specs.declared.header.Header.{Header}
+use Rattle.image.specs.declared.name.Name.{Name}
+use Rattle.image.specs.Layout.{mostNumber, keyAt}
+use Rattle.image.specs.Line.{headerLine, storeLine}
+use Rattle.image.specs.Laws.{front-past-header, front-past-contents}
+use Rattle.image.specs.Alike.{header-alike, contents-alike}
+use Rattle.transient.specs.declared.sizes.Sizes.{Sizes}
+use Rattle.transient.specs.Layout.{note, nextUidAt, setRetired, setWaiting}
+use Rattle.transient.specs.Laws.{retired-front, waiting-front}
+use Rattle.transient.specs.Store.{table}
+use Rattle.transient.specs.Requires.{Entered}
+use Rattle.transient.specs.Again.{NotesKept, TableKept, kept-front, kept-last, kept-uid, notes-kept, table-kept}
+use Rattle.table.specs.Find.{room}
+use Rattle.table.specs.Fill.{filledSlot, joined, taken}
+use Rattle.table.specs.Requires.{setValue}
+use Rattle.table.specs.Laws.{length-filled, front-filled, value-is-contents, room-below}
+use Rattle.jobs.specs.Job.{made, superseded}
+
+module _ {wk tr : List ℕ} {z : Sizes} (y : Entered wk tr z) where
+  -- ---- the notes
+  pub waiting-kept : (e s : ℕ) → NotesKept z tr (setWaiting z tr e s)
+  waiting-kept e s = kept-front (notes-kept y) (waiting-front tr z e s)
+
+  pub joined-kept : (e s : ℕ) → NotesKept z tr (joined z tr e s)
+  unfolding joined
+  joined-kept e s = kept-front (kept-front (notes-kept y) (retired-front tr z s 0)) (waiting-front (setRetired z tr s 0) z e s)
+
+  taken-kept : (e s : ℕ) → s < z .n → NotesKept z tr (taken z tr e s)
+  unfolding taken joined
+  taken-kept e s h =
+      kept-front (kept-front (kept-last (notes-kept y) (y .shaped .notes) s h) (retired-front _ z s 0)) (waiting-front _ z e s)
+
+  -- ---- the table
+  module _ {tr′ : List ℕ} (k : NotesKept z tr tr′) (s : ℕ) where
+    pub header-kept : (h : Header) → TableKept z (table wk tr) (table (storeLine wk (headerLine s h)) tr′)
+    header-kept h = record { working = header-alike wk s h; clock = front-past-header wk s 2 h (omega arith); notes = k }
+
+    pub value-kept : (value : List ℕ) → TableKept z (table wk tr) (table (setValue z wk s value) tr′)
+    value-kept value =
+        let words = keyAt wk (z .n) (z .w) s ∷ value in
+        rw (value-is-contents z wk s value)
+        record { working = contents-alike wk (z .n) (z .w) s words; clock = front-past-contents wk (z .n) (z .w) s 2 words (omega arith); notes = k }
+
+    filled-kept : (h : Header) (words : List ℕ) → TableKept z (table wk tr) (table (filledSlot z wk s h words) tr′)
+    filled-kept h words =
+        let front = front-filled z wk s h words in
+        record {
+          working = record { long = length-filled z wk s h words; slots = front 0 (omega arith); width = front 1 (omega arith) };
+          clock = front 2 (omega arith);
+          notes = k;
+        }
+
+  -- a first version, and a later one or an anti-payload
+  pub made-kept : (e s : ℕ) (name : Name) (value : List ℕ) → s < z .n → note nextUidAt tr ≤ mostNumber
+      → TableKept z (table wk tr) (made z (table wk tr) e s name value)
+  unfolding made
+  made-kept e s name value h top =
+      filled-kept (kept-uid (taken-kept e s h) (y .shaped .notes) (note nextUidAt tr + 1) (omega arith) (omega arith)) s _ _
+
+  pub super-kept : (k e s : ℕ) (h : Header) (words : List ℕ) → TableKept z (table wk tr) (superseded (room z (table wk tr) k) z (table wk tr) e s h words .table)
+  super-kept k e s h words = go (room z (table wk tr) k) refl
+    where
+      go : (g : Found) → room z (table wk tr) k ≡ g → TableKept z (table wk tr) (superseded g z (table wk tr) e s h words .table)
+      go (At f) q = filled-kept (kept-front (taken-kept e f (room-below z (table wk tr) k f (y .last) q)) (retired-front _ z s e)) f h words
+      go Nothing q = table-kept y
