@@ -34,8 +34,8 @@
  * Format and recover judge only the lengths of what they fill, not the words that stand there.
  *
  * A JOB is a key other than 0 and a value of W - 1 words. Jobs are changed within an operation:
- * begin, then any new, set and delete, then end. The clock counts epochs, and an operation belongs
- * to the epoch in which it began. board_advance and board_sync move the clock. A power cut at clock c
+ * begin, then any new, set and delete, one by one or up to 64 in one call (board_batch), then end. The
+ * clock counts epochs, and an operation belongs to the epoch in which it began. board_advance and board_sync move the clock. A power cut at clock c
  * keeps every operation of an epoch up to c - 2, whole, and nothing of any later one; so an
  * operation is safe once the clock has ticked twice since it began.
  *
@@ -93,10 +93,11 @@
  * WHAT YOU LEND. Every length below is in words, except that of an image's bytes. A call accepts any
  * lengths and any words: it refuses what is not a store, and a refusal changes nothing. The pointers
  * must be valid for their lengths. Blocks and values are aligned as uint32_t, to 4 bytes; an image's
- * bytes may stand at any address. The three blocks must not overlap, and a value that you hand over must
- * not overlap them: copy what board_read or board_look shows before you hand it back. A call keeps no
+ * bytes may stand at any address. The three blocks must not overlap, and a value or a list of changes that
+ * you hand over must not overlap them: copy what board_read or board_look shows before you hand it back. A call keeps no
  * pointer, allocates nothing and always returns. On the stack board_recover, board_survivors and
- * board_clock take at most 24 KB (24,576 bytes), every other call at most 512 bytes.
+ * board_clock take at most 24 KB (24,576 bytes), board_batch at most 1 KB (1,024 bytes), every other
+ * call at most 512 bytes.
  */
 #ifndef BOARD_H
 #define BOARD_H
@@ -106,7 +107,7 @@
 
 /* The version of this header. */
 #define BOARD_VERSION_MAJOR 0
-#define BOARD_VERSION_MINOR 5
+#define BOARD_VERSION_MINOR 6
 #define BOARD_VERSION_PATCH 0
 #define BOARD_VERSION (BOARD_VERSION_MAJOR * 10000 + BOARD_VERSION_MINOR * 100 + BOARD_VERSION_PATCH)
 
@@ -148,7 +149,8 @@ enum board_refusal {
     BOARD_NO_THREAD = 5,     /* the thread number is not below T */
     BOARD_ALREADY_OPEN = 6,  /* the thread has an operation open */
     BOARD_NOT_OPEN = 7,      /* the thread has no operation open */
-    BOARD_BAD_ARGUMENT = 8,  /* key 0, or a value that is not W - 1 words long */
+    BOARD_BAD_ARGUMENT = 8,  /* key 0, or a value that is not W - 1 words long; for a batch also a list of
+                                the wrong length and, in its turn, a change of an unknown kind */
     BOARD_NEWER = 9,         /* an operation of a later epoch has changed this job or, for a queue call,
                                 the queue: end, begin again, and repeat the call in the new operation */
     BOARD_NO_JOB = 10,       /* no live job of that key */
@@ -162,7 +164,8 @@ enum board_refusal {
     BOARD_EMPTY = 17         /* the queue is empty */
 };
 
-/* A 64-bit answer of BOARD_REFUSED or more is a refusal: BOARD_REFUSED plus its number. */
+/* A 64-bit answer of BOARD_REFUSED or more is a refusal: BOARD_REFUSED plus its number. Not so that of
+ * board_batch, which has two macros of its own. */
 #define BOARD_REFUSED UINT64_C(4294967296)
 
 /* The refusal's number in a 64-bit answer, 0 where it is none. */
@@ -184,7 +187,7 @@ BOARD_INLINE const char *board_refusal_text(uint32_t refusal)
     case BOARD_NO_THREAD: return "there is no thread of that number";
     case BOARD_ALREADY_OPEN: return "the thread has an operation open";
     case BOARD_NOT_OPEN: return "the thread has no operation open";
-    case BOARD_BAD_ARGUMENT: return "the key is 0 or the value has the wrong length";
+    case BOARD_BAD_ARGUMENT: return "the key is 0, a length is wrong, or a change is of an unknown kind";
     case BOARD_NEWER: return "a later epoch has changed this job, or the queue";
     case BOARD_NO_JOB: return "there is no job of that key";
     case BOARD_JOB_EXISTS: return "there is a job of that key already";
@@ -258,6 +261,43 @@ uint32_t board_delete(uint32_t *working, size_t working_words,
                       const uint32_t *persistent, size_t persistent_words,
                       uint32_t *transient, size_t transient_words,
                       uint32_t thread, uint32_t key);
+
+/* The kinds of a change in a list. */
+enum board_change {
+    BOARD_NEW = 1,
+    BOARD_SET = 2,
+    BOARD_DELETE = 3
+};
+
+/* A list holds at most so many changes. */
+#define BOARD_MOST_CHANGES 64
+
+/* What board_batch answers: how many changes were accepted, from the first on, and the refusal that ended
+ * it, 0 where there was none. */
+#define BOARD_BATCH_ACCEPTED(answer) ((uint32_t)((answer) % BOARD_REFUSED))
+#define BOARD_BATCH_REFUSAL(answer) ((uint32_t)((answer) / BOARD_REFUSED))
+
+/* Makes the changes of a list, one by one and in order, as board_new, board_set and board_delete of the
+ * same thread would, up to the first that declines. Each change is W + 1 words: its kind, the key and
+ * W - 1 value words, which a delete has too but does not look at. changes_words is the length of the
+ * whole list, a multiple of W + 1. An empty list is accepted with 0.
+ *
+ * What was accepted before a refusal stands: the changes are part of the open operation, and a power cut
+ * keeps or loses them with it. Only a call that refuses with none accepted changes nothing.
+ *
+ *     uint32_t changes[2][1 + WORDS] = {{BOARD_NEW, 17, 4, 20}, {BOARD_DELETE, 12}};
+ *     uint64_t answer = board_batch(w, wn, p, pn, t, tn, thread, *changes, 2 * (1 + WORDS));
+ *     if (BOARD_BATCH_REFUSAL(answer) != 0)
+ *         complain(changes[BOARD_BATCH_ACCEPTED(answer)], board_refusal_text(BOARD_BATCH_REFUSAL(answer)));
+ *
+ * Refusals of the whole list, with none accepted: BOARD_NO_THREAD, BOARD_NOT_OPEN, BOARD_BAD_ARGUMENT
+ * (more than 64 changes, or a length that is no multiple of W + 1). Of a change, in its turn: those of its
+ * own call, and BOARD_BAD_ARGUMENT for an unknown kind. */
+BOARD_MUST_CHECK
+uint64_t board_batch(uint32_t *working, size_t working_words,
+                     const uint32_t *persistent, size_t persistent_words,
+                     uint32_t *transient, size_t transient_words,
+                     uint32_t thread, const uint32_t *changes, size_t changes_words);
 
 /* Where in working the value of a live job starts, W - 1 words long, or BOARD_REFUSED plus the
  * refusal. It needs no open operation, and nothing is changed. The words stay as they are until the
@@ -466,6 +506,13 @@ static inline uint32_t board_store_delete(const struct board_store *store,
                                           uint32_t thread, uint32_t key)
 {
     return board_delete(BOARD_BLOCKS(store), thread, key);
+}
+
+BOARD_MUST_CHECK
+static inline uint64_t board_store_batch(const struct board_store *store,
+                                         uint32_t thread, const uint32_t *changes, size_t changes_words)
+{
+    return board_batch(BOARD_BLOCKS(store), thread, changes, changes_words);
 }
 
 BOARD_MUST_CHECK
