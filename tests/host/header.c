@@ -35,6 +35,18 @@ static void accepted_answers(void)
         same("the refusal of an answer that is none", board_refusal_of(answers[i]), 0);
 }
 
+/* A batch answers two numbers. */
+static void halves_of_a_batch(void)
+{
+    for (uint32_t refusal = 0; refusal <= BOARD_EMPTY; refusal++)
+        for (uint32_t accepted = 0; accepted <= BOARD_MOST_CHANGES; accepted++) {
+            uint64_t answer = (uint64_t)refusal << 32 | accepted;
+            same("the changes accepted", BOARD_BATCH_ACCEPTED(answer), accepted);
+            same("the refusal that ended them", BOARD_BATCH_REFUSAL(answer), refusal);
+        }
+    same("the macros on a sum", BOARD_BATCH_ACCEPTED(BOARD_REFUSED + 2) + BOARD_BATCH_REFUSAL(BOARD_REFUSED + 2), 3);
+}
+
 static struct board_store one_argument(const struct store *s)
 {
     return (struct board_store){.working = s->working, .persistent = s->persistent, .transient = s->transient,
@@ -53,6 +65,8 @@ static void as_one_argument(void)
 {
     struct store a = blocks(SLOTS, WORDS, THREADS, board_image_words(SLOTS, WORDS)), b = blocks(SLOTS, WORDS, THREADS, a.image);
     const struct board_store store = one_argument(&a);
+    const uint32_t changes[][1 + WORDS] = {{BOARD_NEW, KEY + 2, 51, 52}, {BOARD_SET, KEY + 2, 61, 62}, {BOARD_DELETE, KEY + 2},
+                                           {BOARD_DELETE + 1, KEY}, {BOARD_DELETE, KEY}};
 #define BOTH(name, wanted, ...)                                                     \
     do {                                                                            \
         same("board_store_" #name, board_store_##name(&store __VA_ARGS__), wanted); \
@@ -74,9 +88,11 @@ static void as_one_argument(void)
     BOTH(take, 0, WITH 1);
     BOTH(new, 0, WITH 1, KEY + 1, value, VALUE_WORDS);
     BOTH(delete, 0, WITH 1, KEY + 1);
+    BOTH(batch, BOARD_BAD_ARGUMENT * BOARD_REFUSED + 3, WITH 1, *changes, sizeof changes / sizeof **changes);
+    BOTH(batch, BOARD_NO_THREAD * BOARD_REFUSED, WITH THREADS, *changes, 0);
     BOTH(end, 0, WITH 1);
     BOTH(advance, BOARD_TICKED);
-    BOTH(sync, 8);
+    BOTH(sync, 10);
     power_cut(&a);
     power_cut(&b);
     BOTH(recover, BOARD_DONE);
@@ -122,6 +138,7 @@ int main(int argc, char **argv)
     }
     texts();
     accepted_answers();
+    halves_of_a_batch();
     same("the library's version", board_version(), BOARD_VERSION);
     as_one_argument();
     readers();

@@ -143,9 +143,9 @@ static void stop_wrong(const struct killer *k, const char *what, const struct jo
 static void new_board(struct killer *k)
 {
     const uint32_t weights[CALL_KINDS] = {
-        [CALL_BEGIN] = 20, [CALL_END] = 20, [CALL_NEW] = 12, [CALL_SET] = 12, [CALL_DELETE] = 12, [CALL_READ] = 2,
-        [CALL_READ_REFUSAL] = 1, [CALL_APPEND] = 8, [CALL_TAKE] = 8, [CALL_LOOK] = 2, [CALL_LOOK_REFUSAL] = 1,
-        [CALL_ADVANCE] = 60, [CALL_SYNC] = 4, [CALL_WRITE_BACK] = k->written_back ? 4 : 0,
+        [CALL_BEGIN] = 20, [CALL_END] = 20, [CALL_NEW] = 12, [CALL_SET] = 12, [CALL_DELETE] = 12, [CALL_BATCH] = 6,
+        [CALL_READ] = 2, [CALL_READ_REFUSAL] = 1, [CALL_APPEND] = 8, [CALL_TAKE] = 8, [CALL_LOOK] = 2,
+        [CALL_LOOK_REFUSAL] = 1, [CALL_ADVANCE] = 60, [CALL_SYNC] = 4, [CALL_WRITE_BACK] = k->written_back ? 4 : 0,
     };
     static const uint32_t ranges[] = {3, 8, 20, 50, MOST_SLOTS - FEWEST_SLOTS + 1};
     static uint32_t working[MOST_IMAGE], transient[MOST_NOTES];
@@ -230,9 +230,13 @@ static int report(const struct killer *k, uint64_t kills)
     for (size_t i = 0; i < CALL_KINDS; i++)
         printf(" %s %llu,", call_names[i], (unsigned long long)k->kills[i]);
     printf(" no call %llu\n", (unsigned long long)k->kills[CALL_KINDS]);
-    printf("%llu changes, %llu of them kept; torn headers in %llu files, and in %llu where no word was written back\n",
-           (unsigned long long)k->changes, (unsigned long long)k->kept, (unsigned long long)k->torn[true],
-           (unsigned long long)k->torn[false]);
+    printf("%llu changes, %llu of them in lists, %llu kept; torn headers in %llu files, and in %llu where no word was "
+           "written back\n", (unsigned long long)k->changes, (unsigned long long)k->reference.batched,
+           (unsigned long long)k->kept, (unsigned long long)k->torn[true], (unsigned long long)k->torn[false]);
+    if (k->reference.batched < kills / LEAST_SHARE) {
+        printf("too few changes in lists\n");
+        return 1;
+    }
     if (storing < kills / LEAST_SHARE || k->kept == 0 || k->kept == k->changes) {
         printf("too few kills within advance, sync and recover, or none that took a change or left one\n");
         return 1;

@@ -35,8 +35,8 @@ void junk(uint64_t *random, uint32_t *words, size_t count)
 /* ---- Calls ---- */
 
 const char *const call_names[CALL_KINDS] = {
-    "begin", "end", "new", "set", "delete", "append", "take", "read", "read_refusal", "look", "look_refusal", "advance",
-    "sync", "write_back", "recover",
+    "begin", "end", "new", "set", "delete", "batch", "append", "take", "read", "read_refusal", "look", "look_refusal",
+    "advance", "sync", "write_back", "recover",
 };
 
 static enum call_kind choose_kind(uint64_t *random, const uint32_t weights[CALL_KINDS])
@@ -68,6 +68,38 @@ static size_t choose_position(uint64_t *random, const struct store *s)
     return below(random, 8) == 0 ? from : differing(s, from);
 }
 
+/* Whether there will be a job of this key after so many words of the list, should they be accepted. */
+static bool will_be_there(const struct store *s, const struct call *call, size_t words, uint32_t key)
+{
+    bool there = board_read_refusal(STORE(s), call->thread, key) == 0;
+    for (size_t i = 0; i < words; i += call->change_words)
+        if (call->list[i + 1] == key)
+            there = call->list[i] != BOARD_DELETE;
+    return there;
+}
+
+/* A few changes, often two of one job, most of them such that they are accepted on this store. An improper list has an
+   unknown kind or is not of whole changes. */
+static void choose_list(uint64_t *random, const struct store *s, struct call *call, bool improper)
+{
+    size_t changes = below(random, MOST_CHANGES + 1);
+    call->change_words = 1 + s->words;
+    call->list_words = changes * call->change_words;
+    for (size_t i = 0; i < call->list_words; i += call->change_words) {
+        uint32_t *change = call->list + i;
+        bool again = i > 0 && below(random, 2) == 0;
+        junk(random, change, call->change_words);
+        change[1] = again ? call->list[i - call->change_words + 1] : 1 + below(random, s->slots);
+        change[0] = will_be_there(s, call, i, change[1]) ? BOARD_SET + below(random, 2) : BOARD_NEW;
+        if (below(random, 8) == 0)
+            change[0] = BOARD_NEW + below(random, 3);
+    }
+    if (improper && changes > 0 && below(random, 2) == 0)
+        call->list[below(random, (uint32_t)changes) * call->change_words] = below(random, 2) == 0 ? 0 : 4;
+    else if (improper && changes > 0)
+        call->list_words--;
+}
+
 struct call choose_call(uint64_t *random, const struct store *s, const uint32_t weights[CALL_KINDS],
                         const struct call *previous)
 {
@@ -83,6 +115,8 @@ struct call choose_call(uint64_t *random, const struct store *s, const uint32_t 
         call.value[i] = below(random, 4) == 0 ? 0 : (uint32_t)next(random);
     if (call.kind == CALL_WRITE_BACK)
         call.position = choose_position(random, s);
+    if (call.kind == CALL_BATCH)
+        choose_list(random, s, &call, improper);
     return call;
 }
 
@@ -94,6 +128,7 @@ uint64_t make_call(const struct store *s, const struct call *c)
     case CALL_NEW: return board_new(STORE(s), c->thread, c->key, c->value, c->value_words);
     case CALL_SET: return board_set(STORE(s), c->thread, c->key, c->value, c->value_words);
     case CALL_DELETE: return board_delete(STORE(s), c->thread, c->key);
+    case CALL_BATCH: return board_batch(STORE(s), c->thread, c->list, c->list_words);
     case CALL_READ: return board_read(STORE(s), c->thread, c->key);
     case CALL_READ_REFUSAL: return board_read_refusal(STORE(s), c->thread, c->key);
     case CALL_APPEND: return board_append(STORE(s), c->thread, c->value, c->value_words);
@@ -165,6 +200,23 @@ static void add(struct reference *r, const struct call *call, uint32_t key)
     memcpy(change->value, call->value, sizeof change->value);
 }
 
+/* Each accepted change of a list, as a call of its own. */
+static void add_list(struct reference *r, const struct call *call, size_t accepted)
+{
+    static const enum call_kind kinds[] = {[BOARD_NEW] = CALL_NEW, [BOARD_SET] = CALL_SET, [BOARD_DELETE] = CALL_DELETE};
+    for (size_t i = 0; i < accepted; i++) {
+        const uint32_t *change = call->list + i * call->change_words;
+        if ((i + 1) * call->change_words > call->list_words || change[0] < BOARD_NEW || change[0] > BOARD_DELETE) {
+            printf("change %zu of a list is accepted, and there is none or it is of an unknown kind\n", i);
+            exit(1);
+        }
+        struct call alone = {.kind = kinds[change[0]], .thread = call->thread};
+        memcpy(alone.value, change + 2, (call->change_words - 2) * sizeof *change);
+        add(r, &alone, change[1]);
+        r->batched++;
+    }
+}
+
 void replied(struct reference *r, const struct call *call, uint64_t reply)
 {
     switch (call->kind) {
@@ -179,6 +231,9 @@ void replied(struct reference *r, const struct call *call, uint64_t reply)
     case CALL_NEW: case CALL_SET: case CALL_DELETE: case CALL_TAKE:
         if (reply == 0)
             add(r, call, call->key);
+        break;
+    case CALL_BATCH:
+        add_list(r, call, BOARD_BATCH_ACCEPTED(reply));
         break;
     case CALL_APPEND:
         if (reply < BOARD_REFUSED)

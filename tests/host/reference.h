@@ -14,6 +14,7 @@ enum { JOBS = 1, QUEUE = 2 };                   /* the two boards */
 enum { MOST_SLOTS = 96, MOST_WORDS = 9, MOST_VALUE = MOST_WORDS - 1, MOST_THREADS = 4 };
 enum { MOST_IMAGE = PREFIX + (HEADER_WORDS + MOST_WORDS) * MOST_SLOTS };
 enum { MOST_NOTES = 6 + MOST_THREADS + 3 * MOST_SLOTS };
+enum { MOST_CHANGES = 5 }; /* in a list */
 
 /* A store of these sizes, its memory still to be set. */
 struct store store_of(uint32_t slots, uint32_t words, uint32_t threads);
@@ -28,8 +29,8 @@ void junk(uint64_t *random, uint32_t *words, size_t count);
 /* ---- Calls ---- */
 
 enum call_kind {
-    CALL_BEGIN, CALL_END, CALL_NEW, CALL_SET, CALL_DELETE, CALL_APPEND, CALL_TAKE, CALL_READ, CALL_READ_REFUSAL,
-    CALL_LOOK, CALL_LOOK_REFUSAL, CALL_ADVANCE, CALL_SYNC, CALL_WRITE_BACK, CALL_RECOVER, CALL_KINDS
+    CALL_BEGIN, CALL_END, CALL_NEW, CALL_SET, CALL_DELETE, CALL_BATCH, CALL_APPEND, CALL_TAKE, CALL_READ,
+    CALL_READ_REFUSAL, CALL_LOOK, CALL_LOOK_REFUSAL, CALL_ADVANCE, CALL_SYNC, CALL_WRITE_BACK, CALL_RECOVER, CALL_KINDS
 };
 
 extern const char *const call_names[CALL_KINDS];
@@ -38,6 +39,8 @@ struct call {
     enum call_kind kind;
     uint32_t thread, key, value[MOST_WORDS];
     size_t value_words, position;
+    uint32_t list[MOST_CHANGES * (1 + MOST_WORDS)]; /* of a batch */
+    size_t list_words, change_words;
 };
 
 /* A call of a kind chosen by weight, with arguments that are mostly proper. Words are written back several in a row. */
@@ -70,7 +73,8 @@ struct reference {
     struct jobs start;
     struct change *row;
     size_t changes, room;
-    size_t synced; /* so many of the changes are older than the last sync that replied */
+    size_t synced;    /* so many of the changes are older than the last sync that replied */
+    uint64_t batched; /* changes of lists, in all runs */
 };
 
 /* A new run, from these jobs. */

@@ -29,7 +29,8 @@ static bool same_store(const struct store *a, const struct store *b)
 /* Each call on the store as it was. */
 static void each_declines(struct store *s, const struct store *before)
 {
-    const uint64_t wide = BOARD_REFUSED + BOARD_SIZES;
+    const uint64_t wide = BOARD_REFUSED + BOARD_SIZES, none_accepted = BOARD_REFUSED * BOARD_SIZES;
+    const uint32_t changes[] = {BOARD_NEW, KEY + 1, 41, 42, BOARD_DELETE, KEY, 0, 0};
 #define DECLINES(call, wanted)                                       \
     do {                                                             \
         same(#call, call, wanted);                                   \
@@ -41,6 +42,8 @@ static void each_declines(struct store *s, const struct store *before)
     DECLINES(board_new(STORE(s), 0, KEY + 1, value, VALUE_WORDS), BOARD_SIZES);
     DECLINES(board_set(STORE(s), 0, KEY, value, VALUE_WORDS), BOARD_SIZES);
     DECLINES(board_delete(STORE(s), 0, KEY), BOARD_SIZES);
+    DECLINES(board_batch(STORE(s), 0, changes, 2 * (1 + WORDS)), none_accepted);
+    DECLINES(board_batch(STORE(s), 0, changes, 0), none_accepted);
     DECLINES(board_read(STORE(s), 0, KEY), wide);
     DECLINES(board_read_refusal(STORE(s), 0, KEY), BOARD_SIZES);
     DECLINES(board_append(STORE(s), 0, value, VALUE_WORDS), wide);

@@ -10,7 +10,7 @@
 
 enum { FORMAT = CALL_KINDS, CLOCK_OF, SURVIVORS, IMAGE_WORDS, TRANSIENT_WORDS, VERSION, ALL_CALLS };
 enum { STACK_WORDS = 1 << 14, FEWEST_CALLS = 20 };
-enum { MOST = 512, MOST_OF_CHECKS = 24 * 1024 }; /* what board.h says, in bytes */
+enum { MOST = 512, MOST_OF_BATCH = 1024, MOST_OF_CHECKS = 24 * 1024 }; /* what board.h says, in bytes */
 #define PAINT UINT64_C(0xA5C3A5C3A5C3A5C3)
 
 static const char *const other_names[] = {"format", "clock", "survivors", "image_words", "transient_words", "version"};
@@ -56,6 +56,8 @@ static void make_on_painted_stack(void)
 /* Whether the call was accepted: it goes further down then. */
 static bool accepted(void)
 {
+    if (kind == CALL_BATCH)
+        return BOARD_BATCH_ACCEPTED(answer) > 0;
     bool wide = kind == CALL_READ || kind == CALL_APPEND || kind == CALL_LOOK || kind == CALL_ADVANCE || kind == CALL_SYNC ||
                 kind == CALL_RECOVER || kind > FORMAT;
     return wide ? answer < BOARD_REFUSED : answer == 0;
@@ -93,8 +95,8 @@ static void recovered(void)
 static void run(struct store *s, uint64_t *random, uint64_t calls_wanted)
 {
     const uint32_t weights[CALL_KINDS] = {
-        [CALL_BEGIN] = 20, [CALL_END] = 20, [CALL_NEW] = 24, [CALL_SET] = 12, [CALL_DELETE] = 12, [CALL_READ] = 4,
-        [CALL_READ_REFUSAL] = 4, [CALL_APPEND] = 12, [CALL_TAKE] = 8, [CALL_LOOK] = 4, [CALL_LOOK_REFUSAL] = 4,
+        [CALL_BEGIN] = 20, [CALL_END] = 20, [CALL_NEW] = 24, [CALL_SET] = 12, [CALL_DELETE] = 12, [CALL_BATCH] = 8,
+        [CALL_READ] = 4, [CALL_READ_REFUSAL] = 4, [CALL_APPEND] = 12, [CALL_TAKE] = 8, [CALL_LOOK] = 4, [CALL_LOOK_REFUSAL] = 4,
         [CALL_ADVANCE] = 80, [CALL_SYNC] = 4, [CALL_WRITE_BACK] = 4,
     };
     store = s;
@@ -116,7 +118,7 @@ static int told(void)
     for (unsigned which = 0; which < ALL_CALLS; which++) {
         const char *name = which < CALL_KINDS ? call_names[which] : other_names[which - FORMAT];
         bool checks = which == CALL_RECOVER || which == CLOCK_OF || which == SURVIVORS;
-        size_t most = checks ? MOST_OF_CHECKS : MOST;
+        size_t most = checks ? MOST_OF_CHECKS : which == CALL_BATCH ? MOST_OF_BATCH : MOST;
         bool enough = made[which] >= FEWEST_CALLS || which == FORMAT, more = deepest[which] > most;
         printf("%s %zu bytes, %zu accepted%s%s\n", name, deepest[which], made[which], more ? ": more than board.h says" : "",
                enough ? "" : ": too few calls");

@@ -459,7 +459,7 @@ static void turn(const struct tracer *t, struct call *call)
         call->kind = CALL_SET;
     if ((call->kind == CALL_SET || call->kind == CALL_DELETE) && !job)
         call->kind = CALL_NEW;
-    bool takes_two = call->kind == CALL_NEW || call->kind == CALL_SET || call->kind == CALL_APPEND;
+    bool takes_two = call->kind == CALL_NEW || call->kind == CALL_SET || call->kind == CALL_BATCH || call->kind == CALL_APPEND;
     if (takes_two && free_slots(s) < 2)
         call->kind = job && free_slots(s) > 0 ? CALL_DELETE : CALL_ADVANCE;
     if (call->kind >= CALL_NEW && call->kind <= CALL_TAKE && !is_open)
@@ -474,8 +474,8 @@ static void turn(const struct tracer *t, struct call *call)
 static void run(struct tracer *t)
 {
     static const uint32_t weights[CALL_KINDS] = {
-        [CALL_BEGIN] = 1, [CALL_END] = 1, [CALL_NEW] = 30, [CALL_SET] = 30, [CALL_DELETE] = 24, [CALL_READ] = 1,
-        [CALL_READ_REFUSAL] = 1, [CALL_APPEND] = 18, [CALL_TAKE] = 18, [CALL_LOOK] = 1, [CALL_LOOK_REFUSAL] = 1,
+        [CALL_BEGIN] = 1, [CALL_END] = 1, [CALL_NEW] = 30, [CALL_SET] = 30, [CALL_DELETE] = 24, [CALL_BATCH] = 30,
+        [CALL_READ] = 1, [CALL_READ_REFUSAL] = 1, [CALL_APPEND] = 18, [CALL_TAKE] = 18, [CALL_LOOK] = 1, [CALL_LOOK_REFUSAL] = 1,
         [CALL_ADVANCE] = 25, [CALL_SYNC] = 3, [CALL_WRITE_BACK] = 5,
     };
     const struct store *s = &t->m->store;
@@ -518,6 +518,11 @@ static int report(const struct tracer *t)
             printf("which is too few\n");
             failed = 1;
         }
+    }
+    printf("changes of lists: %llu\n", (unsigned long long)t->reference.batched);
+    if (t->reference.batched < LEAST) {
+        printf("which is too few\n");
+        failed = 1;
     }
     printf("%llu calls, %llu stepped through; %llu instructions stepped, %llu of them changed persistent; "
            "%llu images recovered, seed %llu\n", (unsigned long long)t->calls, (unsigned long long)t->calls_stepped,

@@ -14,6 +14,7 @@ void unchecked(const struct board_store *store, const uint32_t *value, const uin
     board_new(BLOCKS, 0, 1, value, n);
     board_set(BLOCKS, 0, 1, value, n);
     board_delete(BLOCKS, 0, 1);
+    board_batch(BLOCKS, 0, value, n);
     board_read(BLOCKS, 0, 1);
     board_read_refusal(BLOCKS, 0, 1);
     board_append(BLOCKS, 0, value, n);
@@ -32,6 +33,7 @@ void unchecked(const struct board_store *store, const uint32_t *value, const uin
     board_store_new(store, 0, 1, value, n);
     board_store_set(store, 0, 1, value, n);
     board_store_delete(store, 0, 1);
+    board_store_batch(store, 0, value, n);
     board_store_read(store, 0, 1);
     board_store_read_refusal(store, 0, 1);
     board_store_append(store, 0, value, n);

@@ -40,6 +40,17 @@ extern "C" {
         length: usize,
     ) -> u32;
     pub fn board_delete(w: Words, wl: usize, p: Words, pl: usize, t: Words, tl: usize, thread: u32, key: u32) -> u32;
+    pub fn board_batch(
+        w: Words,
+        wl: usize,
+        p: Words,
+        pl: usize,
+        t: Words,
+        tl: usize,
+        thread: u32,
+        changes: *const u32,
+        length: usize,
+    ) -> u64;
     pub fn board_read(w: Words, wl: usize, p: Words, pl: usize, t: Words, tl: usize, thread: u32, key: u32) -> u64;
     pub fn board_read_refusal(
         w: Words,

@@ -86,12 +86,23 @@ fn change(slices: Slices, call: &Call) -> u64 {
                 board_set(w, wl, p, pl, t, tl, thread, key, value.as_ptr(), value.len())
             }
             Call::Delete { thread, key } => board_delete(w, wl, p, pl, t, tl, thread, key),
+            Call::Batch { thread, ref list } => return batch(slices, thread, list),
             Call::ReadRefusal { thread, key } => board_read_refusal(w, wl, p, pl, t, tl, thread, key),
             Call::Read { thread, key } => return board_read(w, wl, p, pl, t, tl, thread, key),
             _ => return queue(slices, call),
         }
     };
     u64::from(reply)
+}
+
+/// A list of changes. It is lent between guard words too, and has to stay as it is.
+fn batch(slices: Slices, thread: u32, list: &[u32]) -> u64 {
+    let Slices { w, wl, p, pl, t, tl } = slices;
+    let mut lent = Lent::new(list);
+    // SAFETY: as in `change`.
+    let reply = unsafe { board_batch(w, wl, p, pl, t, tl, thread, lent.start(), list.len()) };
+    assert_eq!(lent.taken_back().as_deref(), Some(list), "the list was overwritten");
+    reply
 }
 
 /// The calls on the queue.

@@ -1,5 +1,6 @@
 //! Every exported call on a store as a value, and the simulator's reply to it, a number as C sees it.
 
+use crate::batch::{batch, Outcome};
 use crate::epochs::Step;
 use crate::image::Sizes;
 use crate::recovery::Progress;
@@ -17,6 +18,7 @@ pub enum Call {
     New { thread: u32, key: u32, value: Vec<u32> },
     Set { thread: u32, key: u32, value: Vec<u32> },
     Delete { thread: u32, key: u32 },
+    Batch { thread: u32, list: Vec<u32> },
     Read { thread: u32, key: u32 },
     ReadRefusal { thread: u32, key: u32 },
     Append { thread: u32, value: Vec<u32> },
@@ -48,6 +50,7 @@ pub fn simulate(store: &mut Store, call: &Call) -> u64 {
         Call::New { thread, key, value } => plain(changes::new(store, *thread, *key, value)),
         Call::Set { thread, key, value } => plain(changes::set(store, *thread, *key, value)),
         Call::Delete { thread, key } => plain(changes::delete(store, *thread, *key)),
+        Call::Batch { thread, list } => batch(store, *thread, list).number(),
         Call::Read { thread, key } => wide(changes::read(store, *thread, *key).map(|place| place as u64)),
         Call::ReadRefusal { thread, key } => plain(changes::read(store, *thread, *key).map(|_| ())),
         Call::Append { thread, value } => wide(queue::append(store, *thread, value).map(u64::from)),
@@ -66,8 +69,12 @@ pub const LAST_REFUSAL: usize = 17;
 /// How often each refusal came up, by its number.
 pub type Refusals = [u64; LAST_REFUSAL + 1];
 
-/// The refusal that a reply stands for, 0 for none.
+/// The refusal that a reply stands for, 0 for none: that of the call as a whole, which of a batch may be none although a
+/// change of its list was refused.
 pub fn refusal_of(call: &Call, reply: u64) -> Refusal {
+    if matches!(call, Call::Batch { .. }) {
+        return Outcome::of(reply).declines_with();
+    }
     let gives_a_place = matches!(call, Call::Read { .. } | Call::Append { .. } | Call::Look { .. });
     let is_wide = gives_a_place || matches!(call, Call::Recover | Call::Advance | Call::Sync);
     let refusal = if is_wide { reply.saturating_sub(REFUSED) } else { reply };

@@ -3,6 +3,7 @@
 use crate::calls::{image_words, refusal_of, simulate, transient_words, Call, WENT_ON};
 use crate::damage::{acceptable_image, any_clock, edge_word};
 use crate::image::{Sizes, DELETE, JOBS, PREFIX};
+use crate::lists::any_list;
 use crate::queue::front;
 use crate::random::Random;
 use crate::store::{Entry, Store};
@@ -72,7 +73,7 @@ pub fn trace(random: &mut Random, slots: u32, length: usize) -> Trace {
 
 fn some_calls(random: &mut Random, store: &mut Store, length: usize) -> Vec<Event> {
     let slots = store.working[0];
-    let mix = Mix { advances: random.pick(&[15, 45, 65]), keys: random.between(2, slots + 2) };
+    let mix = Mix { advances: random.pick(&[15, 45, 65]), batches: 4, keys: random.between(2, slots + 2) };
     calls_of(random, store, mix, length)
 }
 
@@ -132,10 +133,12 @@ fn any_word(random: &mut Random, store: &Store) -> usize {
     random.pick(part)
 }
 
-/// How often a call has to do with epochs, in percent, and how many keys are in play.
+/// How often a call has to do with epochs, and how often one within an operation is a list of changes, both in percent;
+/// and how many keys are in play.
 #[derive(Clone, Copy)]
 pub struct Mix {
     pub advances: usize,
+    pub batches: usize,
     pub keys: u32,
 }
 
@@ -144,7 +147,7 @@ pub fn any_call(random: &mut Random, store: &Store, mix: Mix) -> Call {
     if random.chance(mix.advances) {
         epoch_call(random, store)
     } else {
-        thread_call(random, store, mix.keys)
+        thread_call(random, store, mix)
     }
 }
 
@@ -176,8 +179,8 @@ fn word_written_back(random: &mut Random, store: &Store) -> Call {
     Call::WriteBack { position }
 }
 
-/// Begin, end, a call on jobs or one on the queue.
-pub fn thread_call(random: &mut Random, store: &Store, keys: u32) -> Call {
+/// Begin, end, a list of changes, a call on jobs or one on the queue.
+pub fn thread_call(random: &mut Random, store: &Store, mix: Mix) -> Call {
     let entry = store.enter().ok();
     let threads = entry.map_or(2, |entry| entry.layout.threads);
     let thread = random.below(threads) as u32;
@@ -187,8 +190,9 @@ pub fn thread_call(random: &mut Random, store: &Store, keys: u32) -> Call {
     match (is_open, roll) {
         (true, 0..=17) | (false, 0..=4) => Call::End { thread },
         (true, 18..=20) | (false, 5..=79) => Call::Begin { thread },
+        _ if random.chance(mix.batches) => Call::Batch { thread, list: any_list(random, store, thread, mix.keys) },
         _ if random.chance(50) => queue_call(random, store, entry, thread),
-        _ => job_call(random, store, entry, thread, keys),
+        _ => job_call(random, store, entry, thread, mix.keys),
     }
 }
 
@@ -226,7 +230,7 @@ fn job_call(random: &mut Random, store: &Store, entry: Option<Entry>, thread: u3
 
 /// A key of the board, most often that of a live job where one is wanted; or that of a slot that looks like a job and is
 /// none, a live one on another board (a queue entry, or what damage has put there) or one with remains.
-fn any_key(random: &mut Random, store: &Store, entry: Option<Entry>, keys: u32, wants_held: bool) -> u32 {
+pub fn any_key(random: &mut Random, store: &Store, entry: Option<Entry>, keys: u32, wants_held: bool) -> u32 {
     if random.chance(2) {
         return edge_word(random, keys);
     }

@@ -7,6 +7,8 @@
 //! The plain board (`reference`) is from 01 and 02 alone, but for what it keeps of the operations that a sync made safe;
 //! what a cut within a store can leave (`torn`) is from 02, No. 4, alone.
 
+pub mod batch;
+pub mod batch_cases;
 pub mod boards;
 pub mod calls;
 pub mod changes;
@@ -17,6 +19,7 @@ pub mod generator;
 pub mod headcount;
 pub mod image;
 pub mod lister;
+pub mod lists;
 pub mod queue;
 pub mod queue_cases;
 pub mod random;

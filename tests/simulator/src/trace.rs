@@ -1,5 +1,7 @@
 //! A run of calls with a crash after each lasting store and within it, also in a sync, held against the reference map.
 
+use crate::batch::{call_alone, Outcome};
+use crate::batch_cases::BatchCases;
 use crate::calls::{refusal_of, simulate, Call, Refusals, TICKED};
 use crate::crash::{check_crash, Engine};
 use crate::image::{job, Sizes};
@@ -19,6 +21,7 @@ pub struct Counts {
     pub torn: Torn,
     pub refusals: Refusals,
     pub queue_cases: QueueCases,
+    pub batch_cases: BatchCases,
     pub within_syncs: WithinSyncs,
 }
 
@@ -149,6 +152,7 @@ impl Replay<'_, '_> {
         let refusal = refusal_of(call, reply);
         self.counts.calls += 1;
         self.counts.queue_cases.note(&before, call, reply);
+        self.counts.batch_cases.note(&before, call, reply);
         if refusal != 0 {
             let seen = self.counts.refusals.get_mut(refusal as usize);
             *seen.ok_or(format!("unknown refusal {refusal}"))? += 1;
@@ -169,12 +173,40 @@ impl Replay<'_, '_> {
                 self.reference.changed(*thread, job(*key), Some(value))
             }
             Call::Delete { thread, key } => self.reference.changed(*thread, job(*key), None),
+            Call::Batch { thread, list } => return self.batched(before, *thread, list, Outcome::of(reply)),
             Call::Append { thread, value } => return self.reference.appended(*thread, reply, value),
             Call::Take { thread } => return self.took(before, *thread),
             Call::Advance => return self.advanced(&before.persistent, reply),
             Call::WriteBack { .. } => return self.stored(),
             Call::Read { .. } | Call::ReadRefusal { .. } | Call::Look { .. } | Call::LookRefusal { .. } => {}
             Call::Sync | Call::Format { .. } | Call::Recover => {}
+        }
+        Ok(())
+    }
+
+    /// 02, No. 5: "It must equal the same calls made one by one up to the first that declines; for the guarantee after a
+    /// cut it counts as these." They are made on what the batch got, and the plain board hears of each.
+    fn batched(&mut self, before: &Store, thread: u32, list: &[u32], outcome: Outcome) -> Result<(), String> {
+        let Outcome { accepted, refusal } = outcome;
+        let sizes = Sizes::of(&before.working).ok_or("a run keeps the sizes")?;
+        let mut changes = list.chunks_exact(sizes.words + 1);
+        let mut alone = before.clone();
+        for number in 0..accepted {
+            let call = changes.next().and_then(|change| call_alone(thread, change));
+            let call = call.ok_or(format!("change {number} is accepted, and there is none"))?;
+            let reply = (self.engine)(&mut alone, &call)?;
+            if reply != 0 {
+                return Err(format!("change {number} is accepted, and alone it gets {reply}"));
+            }
+            self.accepted(before, &call, reply)?;
+        }
+        let wanted = match changes.next().map(|change| call_alone(thread, change)) {
+            Some(Some(call)) => (self.engine)(&mut alone, &call)?,
+            Some(None) => 8,
+            None => 0,
+        };
+        if wanted != u64::from(refusal) || alone != self.store {
+            return Err(format!("a batch ended by {refusal} differs from its changes one by one, ended by {wanted}"));
         }
         Ok(())
     }

@@ -246,7 +246,7 @@ fn runs_from_left_remains_go_wrong() {
             sizes.set_header(&mut left.working, slot, sizes.header(&found, slot));
             sizes.set_header(&mut left.persistent, slot, sizes.header(&found, slot));
         }
-        let events = calls_of(&mut random, &mut store.clone(), Mix { advances: 40, keys: 6 }, 60);
+        let events = calls_of(&mut random, &mut store.clone(), Mix { advances: 40, batches: 4, keys: 6 }, 60);
         let fails =
             |start: Store| replay(&Trace { start, events: events.clone() }, &mut simulated, &mut Counts::default());
         fails(store).unwrap_or_else(|what| panic!("seed {seed}: {what}"));

@@ -3,6 +3,7 @@
 mod common;
 
 use common::{delete, fresh, make, mark, new, tick, BEGIN, END};
+use simulator::batch::NEW;
 use simulator::calls::{image_words, line_written_back, refusal_of, refused, simulate, transient_words};
 use simulator::calls::{Call, DONE, WENT_ON};
 use simulator::headcount::{figures, head_count};
@@ -104,6 +105,8 @@ fn declines_with_1(before: &Store) {
         new(0, 8),
         set(0, 9),
         delete(0, 9),
+        Call::Batch { thread: 0, list: vec![] },
+        Call::Batch { thread: 0, list: vec![NEW, 8, 8] },
         Call::Read { thread: 0, key: 9 },
         Call::ReadRefusal { thread: 0, key: 9 },
         Call::Append { thread: 0, value: vec![5] },

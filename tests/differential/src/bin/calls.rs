@@ -5,6 +5,7 @@
 use differential::library::{any, compare, lengths};
 use differential::numbers;
 use differential::smallest::Smallest;
+use simulator::batch_cases::BatchCases;
 use simulator::boards::ToldApart;
 use simulator::calls::{image_words, refusal_of, transient_words, Call, Refusals};
 use simulator::damage::{any_image, damage_length, damaged_store, edge_word, wild_store};
@@ -25,6 +26,7 @@ struct Test {
     refusals: Refusals,
     told_apart: ToldApart,
     queue_cases: QueueCases,
+    batch_cases: BatchCases,
     on_remains: CallsOnRemains,
     of_remains: RecoveriesOfRemains,
     smallest: Smallest,
@@ -33,10 +35,20 @@ struct Test {
 fn main() {
     let [seed, count] = numbers("calls SEED COUNT");
     let random = Random::new(seed);
-    let (refusals, told_apart, queue_cases, on_remains, of_remains, smallest) = Default::default();
+    let (refusals, told_apart, queue_cases, batch_cases, on_remains, of_remains, smallest) = Default::default();
     let (calls, accepted) = (0, 0);
-    let mut test =
-        Test { random, calls, accepted, refusals, told_apart, queue_cases, on_remains, of_remains, smallest };
+    let mut test = Test {
+        random,
+        calls,
+        accepted,
+        refusals,
+        told_apart,
+        queue_cases,
+        batch_cases,
+        on_remains,
+        of_remains,
+        smallest,
+    };
     while test.calls < count {
         let most = test.random.pick(&MOST_SLOTS);
         let slots = test.random.between(2, most);
@@ -47,17 +59,20 @@ fn main() {
         let wild = wild_store(&mut test.random, slots);
         test.changes(wild, 12);
     }
-    let Test { calls, accepted, refusals, told_apart, queue_cases, on_remains, of_remains, smallest, .. } = test;
+    let Test {
+        calls, accepted, refusals, told_apart, queue_cases, batch_cases, on_remains, of_remains, smallest, ..
+    } = test;
     smallest.report(seed);
     let ToldApart { no_9, no_11, found_none } = told_apart;
     println!(
         "{calls} calls, no difference, {accepted} accepted, refusals by number {refusals:?}, slots told from jobs by \
-         their board: no 9 {no_9}, no 11 {no_11}, none found {found_none}, {queue_cases}, {on_remains}, {of_remains}, \
-         seed {seed}"
+         their board: no 9 {no_9}, no 11 {no_11}, none found {found_none}, {queue_cases}, {batch_cases}, {on_remains}, \
+         {of_remains}, seed {seed}"
     );
     assert!(refusals[1..].iter().all(|&seen| seen >= 100), "too few of some refusal");
     assert!(told_apart.are_at_least(100), "too few slots that only their board tells from a job");
     assert!(queue_cases.are_at_least(100), "too few of some sort of queue calls");
+    assert!(batch_cases.are_at_least(100), "too few of some sort of batches");
     assert!(on_remains.are_at_least(100), "too few calls that met remains in some way");
     assert!(of_remains.are_at_least(100), "too few recoveries that met remains in some way");
 }
@@ -70,6 +85,7 @@ impl Test {
         match compare(store, call, any) {
             Ok(reply) => {
                 self.queue_cases.note(&before, call, reply);
+                self.batch_cases.note(&before, call, reply);
                 self.on_remains.note(&before, call, reply, store);
                 if *call == Call::Recover {
                     self.of_remains.note(&before.persistent, &store.persistent);
@@ -90,7 +106,7 @@ impl Test {
     /// Calls on a damaged or wild store.
     fn changes(&mut self, mut store: Store, count: usize) {
         for _ in 0..count {
-            let call = any_call(&mut self.random, &store, Mix { advances: 30, keys: 4 });
+            let call = any_call(&mut self.random, &store, Mix { advances: 30, batches: 25, keys: 4 });
             let before = store.clone();
             if let Some(reply) = self.make(&mut store, &call) {
                 self.told_apart.note(&before, &call, reply);
@@ -101,7 +117,8 @@ impl Test {
     /// A run, with side steps into damaged copies of the store and into a recovery of what it would leave.
     fn honest(&mut self, slots: u32) {
         let mut store = start(&mut self.random, slots);
-        let mix = Mix { advances: self.random.pick(&[10, 30, 60]), keys: self.random.between(2, slots + 2) };
+        let mix =
+            Mix { advances: self.random.pick(&[10, 30, 60]), batches: 8, keys: self.random.between(2, slots + 2) };
         for _ in 0..80 {
             let call = any_call(&mut self.random, &store, mix);
             self.make(&mut store, &call);

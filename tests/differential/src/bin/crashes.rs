@@ -33,11 +33,11 @@ fn main() {
             panic!("run {run} of seed {seed}: {what}");
         }
     }
-    let Counts { calls, crashes, went_on, torn, refusals, queue_cases, within_syncs } = &counts;
+    let Counts { calls, crashes, went_on, torn, refusals, queue_cases, batch_cases, within_syncs } = &counts;
     println!(
         "{runs} runs, {calls} calls, {crashes} cuts, {torn}, no difference, recover went on {went_on}, {within_syncs}, \
          starts near 2 {starts_low} and near {LARGEST} {starts_high}, refusals by number {refusals:?}, {queue_cases}, \
-         seed {seed}"
+         {batch_cases}, seed {seed}"
     );
     assert!(refusals[1..].iter().all(|&seen| seen >= 100), "too few of some refusal");
     let least = Torn { headers: 100 * runs, contents: 40 * runs, recovers: 100 * runs, remains: 100 * runs };
@@ -45,6 +45,7 @@ fn main() {
     let least = WithinSyncs { syncs: 2 * runs, underway: runs / 2, words: 20 * runs, changing: 4 * runs };
     assert!(within_syncs.are_at_least(least), "too little written back within syncs");
     assert!(queue_cases.of_runs_are_at_least(100), "too few of some sort of queue calls");
+    assert!(batch_cases.of_runs_are_at_least(100), "too few of some sort of batches");
     assert!(starts_low >= 100 && starts_high >= 100, "too few starts near some end of the clock");
 }
 
@@ -83,7 +84,7 @@ fn side_steps(random: &mut Random, trace: &Trace, counts: &mut Counts) -> Result
 
 fn calls_on(random: &mut Random, mut store: Store, number: usize, counts: &mut Counts) -> Result<(), String> {
     for _ in 0..number {
-        let call = any_call(random, &store, Mix { advances: 60, keys: 4 });
+        let call = any_call(random, &store, Mix { advances: 60, batches: 10, keys: 4 });
         count(&mut store, &call, counts)?;
     }
     Ok(())

@@ -20,7 +20,7 @@ fn main() {
     let mut random = Random::new(seed);
     let start = fresh(&mut random);
     let mut store = start.clone();
-    let mix = Mix { advances: 30, keys: 900 };
+    let mix = Mix { advances: 30, batches: 4, keys: 900 };
     let events = calls_of(&mut random, &mut store, mix, seconds as usize * CALLS_A_SECOND);
     let mut counts = Counts::default();
     let trace = Trace { start, events };
@@ -28,11 +28,12 @@ fn main() {
     if let Err(what) = replay_with_some_crashes(&trace, &mut compared, &mut counts, stores) {
         panic!("seed {seed}: {what}");
     }
-    let Counts { calls, crashes, went_on, torn, refusals, queue_cases, within_syncs } = &counts;
+    let Counts { calls, crashes, went_on, torn, refusals, queue_cases, batch_cases, within_syncs } = &counts;
     let (first, last) = (trace.start.working[2], store.working[2]);
     println!(
         "{calls} calls on {SLOTS} slots and {THREADS} threads, clock {first} to {last}, {crashes} cuts, {torn}, no \
-         difference, recover went on {went_on}, {within_syncs}, refusals by number {refusals:?}, {queue_cases}, seed {seed}"
+         difference, recover went on {went_on}, {within_syncs}, refusals by number {refusals:?}, {queue_cases}, {batch_cases}, \
+         seed {seed}"
     );
 }
 

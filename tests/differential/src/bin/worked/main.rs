@@ -6,6 +6,7 @@ mod queue;
 mod remains;
 
 use differential::library::{answers, any, compare, lengths};
+use simulator::batch::{Outcome, NEW};
 use simulator::calls::{line_written_back, refused, Call, DONE, TICKED, WENT_ON};
 use simulator::image::{ALLOC, DELETE, HEADER_WORDS, JOBS, PREFIX, QUEUE, UPDATE};
 use simulator::lister::bytes_of;
@@ -77,12 +78,15 @@ fn declined_notes(own: &Store, other: &Store) -> usize {
 /// Every call but format and recover declines with 1 and changes nothing.
 fn each_declines_with_1(store: &mut Store, value: &[u32]) -> usize {
     let before = store.clone();
+    let declined = Outcome { accepted: 0, refusal: 1 };
     let calls = [
         (BEGIN, 1),
         (END, 1),
         (new(8, value), 1),
         (set(9, value), 1),
         (delete(9), 1),
+        (Call::Batch { thread: 0, list: vec![] }, declined.number()),
+        (Call::Batch { thread: 0, list: [&[NEW, 8], value].concat() }, declined.number()),
         (read(9), refused(1)),
         (read_refusal(9), 1),
         (Call::Append { thread: 0, value: value.to_vec() }, refused(1)),
