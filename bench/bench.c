@@ -121,6 +121,26 @@ static void half_queue_open(struct bed *b)
     begin(b);
 }
 
+/* A round: forty changes, or what a small board has room for. */
+enum { ROUND = 40 };
+static uint32_t round_list[ROUND][1 + WORDS];
+static uint32_t round_changes;
+
+/* The board that it meets is half full; its changes are of so many kinds in turn, new first. */
+static void round_of(struct bed *b, uint32_t kinds)
+{
+    half_full_open(b);
+    round_changes = b->slots / 2 - 2 < ROUND ? b->slots / 2 - 2 : ROUND;
+    for (uint32_t i = 0; i < round_changes; i++) {
+        uint32_t kind = BOARD_NEW + i % kinds;
+        memcpy(round_list[i], (uint32_t[]){kind, i + 1 + (kind == BOARD_NEW ? b->slots : 0)}, 2 * sizeof kind);
+        memcpy(round_list[i] + 2, other_value, sizeof other_value);
+    }
+}
+
+static void round_of_new(struct bed *b) { round_of(b, 1); }
+static void round_of_all(struct bed *b) { round_of(b, 3); }
+
 /* Half the slots hold jobs of the open operation's epoch. */
 static void young(struct bed *b)
 {
@@ -193,6 +213,25 @@ static uint64_t do_delete(const struct calls *c, struct bed *b) { return c->dele
 static uint64_t do_read(const struct calls *c, struct bed *b) { return c->read(BED(b), 1, b->key); }
 static uint64_t do_read_absent(const struct calls *c, struct bed *b) { return c->read(BED(b), 1, b->slots + b->key); }
 
+/* The changes of a round, by a call each; the answer is that of a batch. */
+static uint64_t do_calls(const struct calls *c, struct bed *b)
+{
+    for (uint32_t i = 0; i < round_changes; i++) {
+        const uint32_t *change = round_list[i];
+        uint32_t refusal = change[0] == BOARD_NEW   ? c->new(BED(b), 0, change[1], change + 2, VALUE_WORDS)
+                           : change[0] == BOARD_SET ? c->set(BED(b), 0, change[1], change + 2, VALUE_WORDS)
+                                                    : c->delete(BED(b), 0, change[1]);
+        if (refusal != 0)
+            return BOARD_REFUSED * refusal + i;
+    }
+    return round_changes;
+}
+
+static uint64_t do_batch(const struct calls *c, struct bed *b)
+{
+    return c->batch(BED(b), 0, *round_list, round_changes * (1 + WORDS));
+}
+
 static uint64_t do_append(const struct calls *c, struct bed *b) { return c->append(BED(b), 0, value, VALUE_WORDS); }
 static uint64_t do_take(const struct calls *c, struct bed *b) { return c->take(BED(b), 0); }
 static uint64_t do_look(const struct calls *c, struct bed *b) { return c->look(BED(b), 1); }
@@ -239,6 +278,10 @@ static const struct measure {
     {"set in place", young, do_set, false, 0},
     {"set by a new version", half_full_open, do_set, false, 0},
     {"delete", half_full_open, do_delete, false, 0},
+    {"40 new, a call each, per change", round_of_new, do_calls, true, UINT64_MAX},
+    {"40 new, one batch, per change", round_of_new, do_batch, true, UINT64_MAX},
+    {"40 changes, a call each, per change", round_of_all, do_calls, true, UINT64_MAX},
+    {"40 changes, one batch, per change", round_of_all, do_batch, true, UINT64_MAX},
     {"read, present", half_full, do_read, false, UINT64_MAX},
     {"read, absent", half_full, do_read_absent, false, BOARD_REFUSED + BOARD_NO_JOB},
     {"append", half_queue_open, do_append, false, UINT64_MAX},

@@ -142,9 +142,20 @@ uint32_t BYHAND(end)(NOTES_STORE, uint32_t thread)
     return 0;
 }
 
-/* From a slot's key on: where that key stands next, or the end. */
-static const uint32_t *next_key(const uint32_t *at, const uint32_t *end, size_t words, uint32_t key)
+/* From a slot's key on: where that key stands next, or the end. Four are looked at in a round while more than three are
+   left; `last` lies in the image even where it has two slots. */
+static inline const uint32_t *next_key(const uint32_t *at, const uint32_t *end, size_t words, uint32_t key)
 {
+    for (const uint32_t *last = end - 3 * words; at < last; at += 4 * words) {
+        if (at[0] == key)
+            return at;
+        if (at[words] == key)
+            return at + words;
+        if (at[2 * words] == key)
+            return at + 2 * words;
+        if (at[3 * words] == key)
+            return at + 3 * words;
+    }
     while (at < end && *at != key)
         at += words;
     return at;
@@ -198,19 +209,6 @@ static uint32_t enter_open(struct board *b, READ_STORE, uint32_t thread, uint32_
 #define ENTER_OPEN(b, thread, epoch) enter_open(&b, working, working_words, persistent, persistent_words, transient, \
                                                 transient_words, thread, &epoch)
 
-/* Refusals 1, 2, 5, 7, 8 and 9, the caller's epoch and the live slot of its key. Delete has no value: NONE. */
-static uint32_t find(struct board *b, READ_STORE, uint32_t thread, uint32_t key, size_t value_words, uint32_t *epoch,
-                     size_t *live)
-{
-    uint32_t refusal = enter_open(b, working, working_words, persistent, persistent_words, transient, transient_words,
-                                  thread, epoch);
-    if (refusal != 0)
-        return refusal;
-    if (key == 0 || (value_words != NONE && value_words != b->words - 1))
-        return BOARD_BAD_ARGUMENT;
-    return look_up(b, key, *epoch, live);
-}
-
 /* The first free slot after the last one taken, if so many are free; else NONE. */
 static size_t room(const struct board *b, size_t needed)
 {
@@ -241,50 +239,45 @@ static void fill(const struct board *b, size_t slot, const uint32_t header[HEADE
     waiting(b, header[EPOCH])[slot] = 1;
 }
 
-uint32_t BYHAND(new)(CHANGE_STORE, uint32_t thread, uint32_t key, const uint32_t *value, size_t value_words)
+/* New, set and delete of a key in an operation of that epoch. */
+static uint32_t make(const struct board *b, uint32_t epoch, uint32_t key, const uint32_t *value)
 {
-    struct board b;
-    uint32_t epoch;
     size_t live;
-    uint32_t refusal = find(&b, working, working_words, persistent, persistent_words, transient, transient_words,
-                            thread, key, value_words, &epoch, &live);
+    uint32_t refusal = look_up(b, key, epoch, &live);
     if (refusal != 0)
         return refusal;
     if (live != NONE)
         return BOARD_JOB_EXISTS;
-    uint32_t uid = b.notes[NEXT_UID];
+    uint32_t uid = b->notes[NEXT_UID];
     if (uid > LARGEST)
         return BOARD_NO_UID;
-    size_t slot = room(&b, 2);
+    size_t slot = room(b, 2);
     if (slot == NONE)
         return BOARD_FULL;
-    fill(&b, slot, (uint32_t[]){ALLOC, epoch, uid, JOBS}, key, value);
-    b.notes[NEXT_UID] = uid + 1;
+    fill(b, slot, (uint32_t[]){ALLOC, epoch, uid, JOBS}, key, value);
+    b->notes[NEXT_UID] = uid + 1;
     return 0;
 }
 
-uint32_t BYHAND(set)(CHANGE_STORE, uint32_t thread, uint32_t key, const uint32_t *value, size_t value_words)
+static uint32_t replace(const struct board *b, uint32_t epoch, uint32_t key, const uint32_t *value)
 {
-    struct board b;
-    uint32_t epoch;
     size_t live;
-    uint32_t refusal = find(&b, working, working_words, persistent, persistent_words, transient, transient_words,
-                            thread, key, value_words, &epoch, &live);
+    uint32_t refusal = look_up(b, key, epoch, &live);
     if (refusal != 0)
         return refusal;
     if (live == NONE)
         return BOARD_NO_JOB;
-    const uint32_t *header = b.headers + HEADER_WORDS * live;
+    const uint32_t *header = b->headers + HEADER_WORDS * live;
     if (header[EPOCH] == epoch) {
-        memcpy(b.contents + b.words * live + 1, value, value_words * sizeof *value);
-        waiting(&b, epoch)[live] = 1;
+        memcpy(b->contents + b->words * live + 1, value, (b->words - 1) * sizeof *value);
+        waiting(b, epoch)[live] = 1;
         return 0;
     }
-    size_t slot = room(&b, 2);
+    size_t slot = room(b, 2);
     if (slot == NONE)
         return BOARD_FULL;
-    fill(&b, slot, (uint32_t[]){UPDATE, epoch, header[UID], header[BOARD]}, key, value);
-    b.retired[live] = epoch;
+    fill(b, slot, (uint32_t[]){UPDATE, epoch, header[UID], header[BOARD]}, key, value);
+    b->retired[live] = epoch;
     return 0;
 }
 
@@ -308,16 +301,72 @@ static uint32_t end_payload(const struct board *b, size_t live, uint32_t epoch)
     return 0;
 }
 
+static uint32_t discard(const struct board *b, uint32_t epoch, uint32_t key)
+{
+    size_t live;
+    uint32_t refusal = look_up(b, key, epoch, &live);
+    if (refusal != 0)
+        return refusal;
+    return live == NONE ? BOARD_NO_JOB : end_payload(b, live, epoch);
+}
+
+uint32_t BYHAND(new)(CHANGE_STORE, uint32_t thread, uint32_t key, const uint32_t *value, size_t value_words)
+{
+    struct board b;
+    uint32_t epoch, refusal = ENTER_OPEN(b, thread, epoch);
+    if (refusal != 0)
+        return refusal;
+    return key == 0 || value_words != b.words - 1 ? BOARD_BAD_ARGUMENT : make(&b, epoch, key, value);
+}
+
+uint32_t BYHAND(set)(CHANGE_STORE, uint32_t thread, uint32_t key, const uint32_t *value, size_t value_words)
+{
+    struct board b;
+    uint32_t epoch, refusal = ENTER_OPEN(b, thread, epoch);
+    if (refusal != 0)
+        return refusal;
+    return key == 0 || value_words != b.words - 1 ? BOARD_BAD_ARGUMENT : replace(&b, epoch, key, value);
+}
+
 uint32_t BYHAND(delete)(CHANGE_STORE, uint32_t thread, uint32_t key)
 {
     struct board b;
-    uint32_t epoch;
-    size_t live;
-    uint32_t refusal = find(&b, working, working_words, persistent, persistent_words, transient, transient_words,
-                            thread, key, NONE, &epoch, &live);
+    uint32_t epoch, refusal = ENTER_OPEN(b, thread, epoch);
     if (refusal != 0)
         return refusal;
-    return live == NONE ? BOARD_NO_JOB : end_payload(&b, live, epoch);
+    return key == 0 ? BOARD_BAD_ARGUMENT : discard(&b, epoch, key);
+}
+
+/* A change of a list: kind, key and value. */
+static uint32_t change(const struct board *b, uint32_t epoch, const uint32_t *c)
+{
+    if (c[1] == 0)
+        return BOARD_BAD_ARGUMENT;
+    switch (c[0]) {
+    case BOARD_NEW: return make(b, epoch, c[1], c + 2);
+    case BOARD_SET: return replace(b, epoch, c[1], c + 2);
+    case BOARD_DELETE: return discard(b, epoch, c[1]);
+    default: return BOARD_BAD_ARGUMENT;
+    }
+}
+
+uint64_t BYHAND(batch)(CHANGE_STORE, uint32_t thread, const uint32_t *changes, size_t changes_words)
+{
+    struct board b;
+    uint32_t epoch, refusal = ENTER_OPEN(b, thread, epoch);
+    if (refusal != 0)
+        return BOARD_REFUSED * refusal;
+    size_t words = b.words + 1;
+    if (changes_words > BOARD_MOST_CHANGES * words || changes_words % words != 0)
+        return BOARD_REFUSED * BOARD_BAD_ARGUMENT;
+    uint64_t accepted = 0;
+    for (const uint32_t *c = changes; c < changes + changes_words; c += words) {
+        refusal = change(&b, epoch, c);
+        if (refusal != 0)
+            return BOARD_REFUSED * refusal + accepted;
+        accepted++;
+    }
+    return accepted;
 }
 
 uint64_t BYHAND(read)(READ_STORE, uint32_t thread, uint32_t key)

@@ -25,6 +25,7 @@ uint32_t BYHAND(end)(NOTES_STORE, uint32_t thread);
 uint32_t BYHAND(new)(CHANGE_STORE, uint32_t thread, uint32_t key, const uint32_t *value, size_t value_words);
 uint32_t BYHAND(set)(CHANGE_STORE, uint32_t thread, uint32_t key, const uint32_t *value, size_t value_words);
 uint32_t BYHAND(delete)(CHANGE_STORE, uint32_t thread, uint32_t key);
+uint64_t BYHAND(batch)(CHANGE_STORE, uint32_t thread, const uint32_t *changes, size_t changes_words);
 uint64_t BYHAND(read)(READ_STORE, uint32_t thread, uint32_t key);
 uint64_t BYHAND(append)(CHANGE_STORE, uint32_t thread, const uint32_t *value, size_t value_words);
 uint32_t BYHAND(take)(CHANGE_STORE, uint32_t thread);
@@ -43,6 +44,7 @@ struct calls {
     uint32_t (*new)(CHANGE_STORE, uint32_t thread, uint32_t key, const uint32_t *value, size_t value_words);
     uint32_t (*set)(CHANGE_STORE, uint32_t thread, uint32_t key, const uint32_t *value, size_t value_words);
     uint32_t (*delete)(CHANGE_STORE, uint32_t thread, uint32_t key);
+    uint64_t (*batch)(CHANGE_STORE, uint32_t thread, const uint32_t *changes, size_t changes_words);
     uint64_t (*read)(READ_STORE, uint32_t thread, uint32_t key);
     uint64_t (*append)(CHANGE_STORE, uint32_t thread, const uint32_t *value, size_t value_words);
     uint32_t (*take)(CHANGE_STORE, uint32_t thread);
@@ -54,7 +56,8 @@ struct calls {
     uint64_t (*survivors)(const uint8_t *image, size_t bytes);
 };
 
-#define CALLS(of) {of##_format, of##_begin, of##_end, of##_new, of##_set, of##_delete, of##_read, of##_append, \
-                   of##_take, of##_look, of##_advance, of##_sync, of##_write_back, of##_recover, of##_survivors}
+#define CALLS(of) {of##_format, of##_begin, of##_end, of##_new, of##_set, of##_delete, of##_batch, of##_read, \
+                   of##_append, of##_take, of##_look, of##_advance, of##_sync, of##_write_back, of##_recover, \
+                   of##_survivors}
 
 #endif
