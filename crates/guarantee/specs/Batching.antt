@@ -9,17 +9,12 @@ use lib.Dec.{eqb}
 use borrow.Author.Tests.{eq-eqb, ne-eqb}
 use native.Mathlib.Omega.{arith}
 use Rattle.reply.specs.declared.Check.{Check}
-use Rattle.reply.specs.declared.Check.the-variants.{Accepted, Refused}
-use Rattle.reply.specs.Refusals.{byCheck}
 use Rattle.image.specs.Name.{jobName}
 use Rattle.transient.specs.declared.sizes.Sizes.{Sizes}
-use Rattle.transient.specs.Store.{Store, tableOf, sizesOf, Outcome, afterCheck}
-use Rattle.transient.specs.Entry.{entryCheck}
-use Rattle.jobs.specs.Way.{wayIn}
+use Rattle.transient.specs.Store.{Store, tableOf, sizesOf, Outcome}
 use Rattle.job_batch.specs.declared.Batch.{Batch}
-use Rattle.job_batch.specs.Batch.{changeAt, kindOf, jobOf, changeJob, changesFrom, badList, wayCheck, batchJobs}
-use Rattle.job_batch.specs.Stages.{ended}
-use Rattle.job_batch.specs.Ways.{kind-way}
+use Rattle.job_batch.specs.Batch.{changeAt, kindOf, jobOf, changeJob, changesFrom, batchJobs}
+use Rattle.job_batch.specs.Ways.{kind-way, next-way, batch-way}
 use Rattle.crash.specs.Reference.{Jobs}
 use Rattle.guarantee.specs.Trace.{Plain, toldChange, toldChanges}
 use Rattle.guarantee.specs.Good.{Good}
@@ -50,23 +45,15 @@ module _ (sz : Sizes) (start : Jobs) (thread : ℕ) where
     unfolding changesFrom toldChanges
     changes-good k zero st g = g
     changes-good k (suc more) st g =
-        let o = changeJob st thread (changeAt sz list k) in
-        go (o .reply) (o .store) (change-good (changeAt sz list k) g) (changes-good (suc k) more (o .store))
-      where
-        go : (r : Check) (after : Store) → Heard (changeAt sz list k) (toldChanges sz thread list k p) (record { reply = r; store = after })
-            → (Good sz start after (toldChanges sz thread list (suc k) p) → Batched (changesFrom sz thread list (suc k) more after))
-            → Batched (byCheck r (λ q. ended k (Refused q) after) (changesFrom sz thread list (suc k) more after))
-        go (Refused q) after x y = x
-        go Accepted after x y = y x
+        let x = change-good (changeAt sz list k) g in
+        next-way Batched sz thread list k more st (λ r e. rw e at x) (λ e. changes-good (suc k) more _ (rw e at x))
 
 -- by the sizes of the store
 module _ {sz : Sizes} {start : Jobs} (thread : ℕ) where
   pub batch-good : (list : List ℕ) {st : Store} {p : Plain} → Good sz start st p
       → Good sz start (batchJobs st thread list .store) (toldChanges (sizesOf (tableOf st)) thread list (batchJobs st thread list .reply .accepted) p)
-  unfolding batchJobs toldChanges
-  batch-good list {st} {p} g = rw (sizes-is g) (go (byCheck (entryCheck st) Refused (wayCheck (wayIn sz (st .transient) thread (badList sz list)))))
-    where
-      go : (k : Check) → Good sz start (afterCheck k (λ r. record { accepted = 0; ended = Refused r }) st (changesFrom sz thread list 0 (length list / (sz .w + 1)) st) .store)
-          (toldChanges sz thread list (afterCheck k (λ r. record { accepted = 0; ended = Refused r }) st (changesFrom sz thread list 0 (length list / (sz .w + 1)) st) .reply .accepted) p)
-      go (Refused q) = g
-      go Accepted = changes-good sz start thread list p 0 (length list / (sz .w + 1)) st g
+  unfolding toldChanges
+  batch-good list {st} {p} g =
+      let z = sizesOf (tableOf st) in
+      batch-way (λ a. Good sz start (a .store) (toldChanges z thread list (a .reply .accepted) p)) st thread list (λ r. g)
+      (rw (sizes-is g) (changes-good sz start thread list p 0 (length list / (sz .w + 1)) st g))

@@ -9,6 +9,7 @@ use lib.Dec.{eqb}
 use borrow.Author.Tests.{eqb-true, eqb-false}
 use Rattle.reply.specs.declared.Check.{Check}
 use Rattle.reply.specs.declared.Check.the-variants.{Accepted, Refused}
+use Rattle.reply.specs.declared.Refusal.{Refusal}
 use Rattle.reply.specs.Refusals.{byCheck}
 use Rattle.transient.specs.declared.sizes.Sizes.{Sizes}
 use Rattle.transient.specs.Store.{Store, tableOf, sizesOf, Outcome, afterCheck}
@@ -22,6 +23,7 @@ use Rattle.job_set.specs.Set.{setJob}
 use Rattle.job_set.specs.Stages.{setOpened, setSized}
 use Rattle.job_delete.specs.Delete.{deleteJob}
 use Rattle.job_delete.specs.Stages.{deleteOpen, deleteSized}
+use Rattle.job_batch.specs.declared.Batch.{Batch}
 use Rattle.job_batch.specs.Batch.{changeAt, kindOf, jobOf, changeJob, changesFrom, badList, wayCheck, batchJobs}
 use Rattle.job_batch.specs.Stages.{byKind, ended}
 
@@ -45,25 +47,41 @@ change-persistent st thread c =
     j : Job
     j = jobOf c
 
+-- what holds where a change declines, and of the rest where it is accepted, holds from that change on
+pub next-way : (P : Outcome Batch → Type 0) (z : Sizes) (thread : ℕ) (list : List ℕ) (k more : ℕ) (st : Store)
+    → (let o = changeJob st thread (changeAt z list k) in
+    ((r : Refusal) → o .reply ≡ Refused r → P (ended k (Refused r) (o .store))) → (o .reply ≡ Accepted → P (changesFrom z thread list (suc k) more (o .store)))
+    → P (changesFrom z thread list k (suc more) st))
+unfolding changesFrom
+next-way P z thread list k more st a b = go (o .reply) refl
+  where
+    o : Outcome Check
+    o = changeJob st thread (changeAt z list k)
+
+    go : (r : Check) → o .reply ≡ r → P (byCheck r (λ q. ended k (Refused q) (o .store)) (changesFrom z thread list (suc k) more (o .store)))
+    go (Refused r) e = a r e
+    go Accepted e = b e
+
 changes-persistent : (z : Sizes) (thread : ℕ) (list : List ℕ) (k more : ℕ) (st : Store) → changesFrom z thread list k more st .store .persistent ≡ st .persistent
 unfolding changesFrom
 changes-persistent z thread list k zero st = refl
 changes-persistent z thread list k (suc more) st =
-    let o = changeJob st thread (changeAt z list k) in
-    go (o .reply) (o .store) (changes-persistent z thread list (suc k) more (o .store)) ∙ change-persistent st thread (changeAt z list k)
-  where
-    go : (r : Check) (after : Store) → changesFrom z thread list (suc k) more after .store .persistent ≡ after .persistent
-        → byCheck r (λ q. ended k (Refused q) after) (changesFrom z thread list (suc k) more after) .store .persistent ≡ after .persistent
-    go (Refused q) after x = refl
-    go Accepted after x = x
+    let same = change-persistent st thread (changeAt z list k) in
+    next-way (λ a. a .store .persistent ≡ st .persistent) z thread list k more st (λ r e. same) (λ e. changes-persistent z thread list (suc k) more _ ∙ same)
 
-pub batch-persistent : (st : Store) (thread : ℕ) (list : List ℕ) → batchJobs st thread list .store .persistent ≡ st .persistent
+-- what holds of a refusal with none accepted, and of the changes, holds of the whole call
+pub batch-way : (P : Outcome Batch → Type 0) (st : Store) (thread : ℕ) (list : List ℕ) → ((r : Refusal) → P (ended 0 (Refused r) st))
+    → (let z = sizesOf (tableOf st) in P (changesFrom z thread list 0 (length list / (z .w + 1)) st)) → P (batchJobs st thread list)
 unfolding batchJobs
-batch-persistent st thread list = go (byCheck (entryCheck st) Refused (wayCheck (wayIn z (st .transient) thread (badList z list))))
+batch-way P st thread list a b = go (byCheck (entryCheck st) Refused (wayCheck (wayIn z (st .transient) thread (badList z list))))
   where
     z : Sizes
     z = sizesOf (tableOf st)
 
-    go : (k : Check) → afterCheck k (λ r. record { accepted = 0; ended = Refused r }) st (changesFrom z thread list 0 (length list / (z .w + 1)) st) .store .persistent ≡ st .persistent
-    go (Refused q) = refl
-    go Accepted = changes-persistent z thread list 0 (length list / (z .w + 1)) st
+    go : (k : Check) → P (afterCheck k (λ r. record { accepted = 0; ended = Refused r }) st (changesFrom z thread list 0 (length list / (z .w + 1)) st))
+    go (Refused r) = a r
+    go Accepted = b
+
+pub batch-persistent : (st : Store) (thread : ℕ) (list : List ℕ) → batchJobs st thread list .store .persistent ≡ st .persistent
+batch-persistent st thread list =
+    batch-way (λ o. o .store .persistent ≡ st .persistent) st thread list (λ r. refl) (changes-persistent (sizesOf (tableOf st)) thread list 0 _ st)
