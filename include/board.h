@@ -34,10 +34,11 @@
  * Format and recover judge only the lengths of what they fill, not the words that stand there.
  *
  * A JOB is a key other than 0 and a value of W - 1 words. Jobs are changed within an operation:
- * begin, then any new, set and delete, one by one or up to 64 in one call (board_batch), then end. The
- * clock counts epochs, and an operation belongs to the epoch in which it began. board_advance and board_sync move the clock. A power cut at clock c
- * keeps every operation of an epoch up to c - 2, whole, and nothing of any later one; so an
- * operation is safe once the clock has ticked twice since it began.
+ * begin, then any new, set and delete, one by one or up to 64 in one call (board_batch), then end.
+ * The clock counts epochs, and an operation belongs to the epoch in which it began. board_advance and
+ * board_sync move the clock. A power cut at clock c keeps every operation of an epoch up to c - 2,
+ * whole, and nothing of any later one; so an operation is safe once the clock has ticked twice since
+ * it began.
  *
  * THE QUEUE is first in, first out: board_append puts a value of W - 1 words at the back, board_look
  * shows the front and board_take takes it away. Append and take are changes within an operation, as
@@ -91,13 +92,13 @@
  * killed process stored last may not be durable yet.
  *
  * WHAT YOU LEND. Every length below is in words, except that of an image's bytes. A call accepts any
- * lengths and any words: it refuses what is not a store, and a refusal changes nothing. The pointers
- * must be valid for their lengths. Blocks and values are aligned as uint32_t, to 4 bytes; an image's
- * bytes may stand at any address. The three blocks must not overlap, and a value or a list of changes that
- * you hand over must not overlap them: copy what board_read or board_look shows before you hand it back. A call keeps no
- * pointer, allocates nothing and always returns. On the stack board_recover, board_survivors and
- * board_clock take at most 24 KB (24,576 bytes), board_batch at most 1 KB (1,024 bytes), every other
- * call at most 512 bytes.
+ * lengths and any words: it refuses what is not a store, and a refusal changes nothing (in a batch what
+ * was accepted before it stands). The pointers must be valid for their lengths. Blocks, values and
+ * lists of changes are aligned as uint32_t, to 4 bytes; an image's bytes may stand at any address. The
+ * three blocks must not overlap, and a value or a list that you hand over must not overlap them: copy
+ * what board_read or board_look shows before you hand it back. A call keeps no pointer, allocates
+ * nothing and always returns. On the stack board_recover, board_survivors and board_clock take at most
+ * 24 KB (24,576 bytes), board_batch at most 1 KB (1,024 bytes), every other call at most 512 bytes.
  */
 #ifndef BOARD_H
 #define BOARD_H
@@ -168,7 +169,7 @@ enum board_refusal {
  * board_batch, which has two macros of its own. */
 #define BOARD_REFUSED UINT64_C(4294967296)
 
-/* The refusal's number in a 64-bit answer, 0 where it is none. */
+/* The refusal's number in a 64-bit answer of the other calls, 0 where it is none. */
 static inline uint32_t board_refusal_of(uint64_t answer)
 {
     return answer < BOARD_REFUSED ? 0 : (uint32_t)(answer - BOARD_REFUSED);
@@ -287,8 +288,9 @@ enum board_change {
  *
  *     uint32_t changes[2][1 + WORDS] = {{BOARD_NEW, 17, 4, 20}, {BOARD_DELETE, 12}};
  *     uint64_t answer = board_batch(w, wn, p, pn, t, tn, thread, *changes, 2 * (1 + WORDS));
- *     if (BOARD_BATCH_REFUSAL(answer) != 0)
- *         complain(changes[BOARD_BATCH_ACCEPTED(answer)], board_refusal_text(BOARD_BATCH_REFUSAL(answer)));
+ *     uint32_t refusal = BOARD_BATCH_REFUSAL(answer);
+ *     if (refusal != 0)
+ *         complain(BOARD_BATCH_ACCEPTED(answer), board_refusal_text(refusal));
  *
  * Refusals of the whole list, with none accepted: BOARD_NO_THREAD, BOARD_NOT_OPEN, BOARD_BAD_ARGUMENT
  * (more than 64 changes, or a length that is no multiple of W + 1). Of a change, in its turn: those of its
