@@ -21,6 +21,7 @@ use Rattle.transient.specs.Laws.{retired-front, emptied-front, phase-set, slot-
 use Rattle.transient.specs.Store.{Store, Table, tableOf, sizesOf, Outcome}
 use Rattle.transient.specs.Requires.{Notes, notes-after}
 use Rattle.transient.specs.Passed.{entry-with}
+use Rattle.index.specs.Laws.{removed-long}
 use Rattle.step.specs.declared.Place.{Place}
 use Rattle.step.specs.declared.Advance.{Advance}
 use Rattle.step.specs.declared.Advance.the-variants.{WentOn, Ticked, Declined}
@@ -97,7 +98,7 @@ module _ (z : Sizes) (st : Store) (c most : ℕ) where
       let y = passed (z .n) s reclaimNext contentsNext most (b .below) (λ u. omega arith) (omega arith) in
       record {
         slots = front-past-header (st .working) s 0 freeHeader (omega arith);
-        long = retired-front (st .transient) z s 0 .head .long;
+        long = removed-long z _ _ s ∙ retired-front (st .transient) z s 0 .head .long;
         within = y .within;
         on = λ _. y .less;
         tick = λ e. different e;

@@ -10,7 +10,7 @@ ghost use Rattle.chains.specs.Chains.{spot, headOf, numberOf, labelOf, b
 ghost use Rattle.chains.specs.Requires.{Spots, At, AllLinked, FromKin, OnChain, OnKin};
 
 // The spot of a number: its higher bits are folded in, then the product's upper half counts, so that numbers with a common step mostly spread.
-fn spot(m: usize, x: u32) -> usize
+pub fn spot(m: usize, x: u32) -> usize
     requires { ⌜ Spots m ⌝ }
     ensures { λ r. ⌜ r ≡ spot m x ⌝ }
 {

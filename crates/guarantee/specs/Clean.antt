@@ -23,11 +23,13 @@ use Rattle.transient.specs.declared.sizes.Sizes.{Sizes}
 use Rattle.transient.specs.Layout.{threadsOf, threadsOk, note, nextUidAt, nextOrderAt, phaseAt, placeAt, openEpoch, retiredIn, blank}
 use Rattle.transient.specs.Store.{Store, store, tableOf, sizesOf}
 use Rattle.transient.specs.Requires.{Notes}
-use Rattle.transient.specs.Laws.{threads-head, blank-length, blank-uid, blank-order, blank-phase, blank-open, blank-retired}
+use Rattle.transient.specs.Laws.{threads-head, blank-length, blank-uid, blank-order, blank-phase, blank-open, blank-retired, blank-index}
+use Rattle.index.specs.Indexed.{Indexed, indexed-empty}
 use Rattle.survival.specs.Survivors.{kept, survivor, survivesOn}
 use Rattle.acceptance.specs.Accept.{proper, versionBelow, imageCheck}
 use Rattle.acceptance.specs.Requires.{sameVersion}
 use Rattle.acceptance.specs.Sound.{Accepts, accepted-says}
+use Rattle.recovery.specs.Requires.{sizesIn}
 use Rattle.recovery.specs.Steps.{survivor-named, survivors-apart}
 use Rattle.crash.specs.Slots.{Value, Slot, Filled, Proper, Shows}
 use Rattle.crash.specs.Steps.{atRest, Survives, Settled, Start}
@@ -44,7 +46,7 @@ use Rattle.guarantee.specs.JobsOf.{Survivor, jobs-of}
 abbrev pub Begins : Store → Type 0
 Begins st = Good (sizesOf (tableOf st)) (jobsOf (st .persistent)) st (startOf st .plain)
 
--- the notes have nothing open, retired or underway
+-- the notes have nothing open, retired or underway, and their index is the image's
 pub record Clean (l tr : List ℕ) : Type 0 where
   pub accepted : imageCheck l ≡ Accepted
   pub just : (s : ℕ) → s < slotsOf l → isBlank (header l s) ≡ false → survivor l (slotsOf l) s ≡ true
@@ -53,17 +55,20 @@ pub record Clean (l tr : List ℕ) : Type 0 where
   pub orders : (s : ℕ) → s < slotsOf l → survivesOn l (slotsOf l) queueBoard s ≡ true → keyAt l (slotsOf l) (widthOf l) s < note nextOrderAt tr
   pub threads : threadsOk (length tr) (slotsOf l) ≡ true
   pub idle : note phaseAt tr ≡ 0
-  pub closed : (thread : ℕ) → openEpoch tr thread ≡ 0
-  pub not-retired : (z : Sizes) (s : ℕ) → retiredIn z tr s ≡ 0
+  pub closed : (thread : ℕ) → thread < threadsOf (length tr) (slotsOf l) → openEpoch tr thread ≡ 0
+  pub not-retired : (s : ℕ) → s < slotsOf l → retiredIn (sizesIn (length tr) (slotsOf l) (widthOf l)) tr s ≡ 0
+  pub index : Indexed (sizesIn (length tr) (slotsOf l) (widthOf l)) l tr
 
--- blank notes are such, with a next uid and a next order number above the survivors'
+-- blank notes are such beside an image of free slots
 pub blank-clean : (l : List ℕ) (len n u x : ℕ) → imageCheck l ≡ Accepted
     → ((s : ℕ) → s < slotsOf l → isBlank (header l s) ≡ false → survivor l (slotsOf l) s ≡ true)
     → 1 ≤ u → ((s : ℕ) → s < slotsOf l → survivor l (slotsOf l) s ≡ true → header l s .uid < u)
     → ((s : ℕ) → s < slotsOf l → survivesOn l (slotsOf l) queueBoard s ≡ true → keyAt l (slotsOf l) (widthOf l) s < x)
+    → ((s : ℕ) → s < slotsOf l → isFilled (header l s) ≡ false)
     → threadsOk len (slotsOf l) ≡ true → Clean l (blank len n u x)
-blank-clean l len n u x ok just lo uids orders t =
+blank-clean l len n u x ok just lo uids orders free t =
     let is = blank-uid len n u x (threads-head len (slotsOf l) t) in
+    let z = sizesIn (length (blank len n u x)) (slotsOf l) (widthOf l) in
     record {
       accepted = ok;
       just = just;
@@ -72,8 +77,9 @@ blank-clean l len n u x ok just lo uids orders t =
       orders = rw (blank-order len n u x (threads-head len (slotsOf l) t)) orders;
       threads = rw (blank-length len n u x) t;
       idle = blank-phase len n u x;
-      closed = blank-open len n u x;
-      not-retired = blank-retired len n u x;
+      closed = λ thread h. blank-open len n u x thread;
+      not-retired = λ s h. blank-retired len n u x z s;
+      index = indexed-empty (blank-index len n u x z) free;
     }
 
 -- two kept slots are not of one version
@@ -211,7 +217,7 @@ module _ {l tr : List ℕ} (z : Clean l tr) where
         uid-below = o .uid-below;
         order-below = λ f b. rw (key-contents l n w s some-width) at (z .orders s h (entry-survives s (filled-lives s (rw (is-at s h) f) .survives) b));
         named = λ f. rw (name-contents l n w s some-width) at (survivor-named l (z .accepted) s h (filled-lives s (rw (is-at s h) f) .survives));
-        not-retired = z .not-retired sz s;
+        not-retired = z .not-retired s h;
       }
 
   settled-out : Settled c (note nextUidAt tr) (note nextOrderAt tr) noSlot
@@ -319,20 +325,21 @@ module _ {l tr : List ℕ} (z : Clean l tr) where
   clean-here : Good sz (jobsOf l) st (startOf st .plain)
   clean-here =
       let i = image-at in
-      let none : (thread : ℕ) → openEpoch tr thread ≡ 0 = λ thread. z .closed thread in
+      let none = z .closed in
       record {
         clock-hi = ok .clock-hi;
         working = i;
         persistent = i;
         notes = notes-fit;
         opens = record {
-          same = λ u _. none u;
-          least = λ u _ q. absurd (omega (arith, none u));
-          low = λ u _ q. absurd (omega (arith, none u));
-          high = λ u _. omega (arith, none u);
-          quiet = λ u _ q. absurd (omega (arith, none u, ok .clock-lo));
+          same = λ u h. none u h;
+          least = λ u h q. absurd (omega (arith, none u h));
+          low = λ u h q. absurd (omega (arith, none u h));
+          high = λ u h. omega (arith, none u h);
+          quiet = λ u h q. absurd (omega (arith, none u h, ok .clock-lo));
         };
         past = record { ended-hi = λ e m. absurd (List·Memᴰ·not-nil m); durable-hi = λ e m. absurd (List·Memᴰ·not-nil m) };
+        index = z .index;
         inv = start-inv starts;
         fifo = λ e. fifo-none e (jobsOf l);
       }

@@ -88,6 +88,7 @@ module _ {sz : Sizes} {start : Jobs} {st : Store} {p : Plain} (g : Good sz start
         notes = g .notes;
         opens = g .opens;
         past = g .past;
+        index = g .index;
         inv = copied-inv (g .inv) slot-is slot-copied;
         fifo = g .fifo;
       }

@@ -107,7 +107,7 @@ module _ {sz : Sizes} {start : Jobs} {st : Store} {p : Plain} (y : Ready sz star
           let k = f .below in
           let z = noted-place sz tr s headerNext s in
           let passed = passes-inv s i (record { quiet = λ m a b. quiet q m a (f .before m b) (omega arith) }) in
-          went-good y tr headerNext s (y .good .working) (line-image (y .good) k) z (progress-header (sz .n) s)
+          went-good y tr headerNext s (y .good .working) (line-image (y .good) k) z (y .good .index) (progress-header (sz .n) s)
           (half-inv (line-inv passed (record { put = line-put (y .good) k _ z })) (line-same (y .good) k _ z))
       go Nothing e = tick-good y (passes-inv (sz .n) i (record { quiet = λ m a b. quiet q m a (found-nothing (waits q) (sz .n) e m b) b }))
 
@@ -118,5 +118,5 @@ module _ {sz : Sizes} {start : Jobs} {st : Store} {p : Plain} (y : Ready sz star
   head-good s k i =
       let to = passing (sz .n) s contentsNext clockNext in
       let z = noted-place sz tr s (to .phase) (to .slot) in
-      went-good y tr (to .phase) (to .slot) (y .good .working) (head-image (y .good) k) z (passing-flushed (sz .n) s k)
+      went-good y tr (to .phase) (to .slot) (y .good .working) (head-image (y .good) k) z (y .good .index) (passing-flushed (sz .n) s k)
       (whole-inv (head-inv i (record { put = head-put (y .good) k _ z })) refl (head-same (y .good) k _ z))

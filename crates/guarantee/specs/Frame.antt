@@ -15,9 +15,10 @@ use Rattle.image.specs.declared.name.Name.{Name}
 use Rattle.transient.specs.declared.sizes.Sizes.{Sizes}
 use Rattle.transient.specs.Store.{Store, store}
 use Rattle.transient.specs.Layout.{note, nextUidAt, nextOrderAt, phaseAt, placeAt, openEpoch, isWaiting}
-use Rattle.transient.specs.Requires.{notes-after}
+use Rattle.transient.specs.Requires.{Shaped, notes-after}
 use Rattle.transient.specs.Laws.{HeadKept, waiting-again}
 use Rattle.step.specs.Step.{reclaimNext, contentsNext, headerNext, clockNext}
+use Rattle.index.specs.Indexed.{Indexed}
 use Rattle.advance.specs.Stages.{underway}
 use Rattle.crash.specs.Table.{Put}
 use Rattle.crash.specs.Reference.{Jobs, Change, jobsAt, Front, Fifo}
@@ -75,6 +76,10 @@ opens-after z o =
     }
 
 module _ {sz : Sizes} {start : Jobs} {st : Store} {p : Plain} (g : Good sz start st p) where
+  -- ---- an image and its notes
+  pub good-shaped : Shaped (st .working) (st .transient) sz
+  good-shaped = record { working = g .working .sized; notes = g .notes }
+
   -- ---- the operation
   pub operation-of : (thread : ℕ) → thread < sz .t → openEpoch (st .transient) thread ≢ 0 → Operation (openEpoch (st .transient) thread) (stateOf sz start st p)
   operation-of thread h q =
@@ -132,9 +137,9 @@ module _ {sz : Sizes} {start : Jobs} {st : Store} {p : Plain} (g : Good sz start
       record { slots = f; clock = p .clock; uid = u; order = x; place = progress (sz .n) (note phaseAt (st .transient)) (note placeAt (st .transient)); start = start; row = row }
 
   pub good-change : {wk′ tr′ : List ℕ} {u x : ℕ} {row row′ : List Change} → Image sz (p .clock) wk′ → HeadKept sz (st .transient) tr′ → note nextUidAt tr′ ≡ u
-      → note nextOrderAt tr′ ≡ x → row′ ≡ row → ((e : ℕ) → Fifo e start row)
+      → note nextOrderAt tr′ ≡ x → Indexed sz wk′ tr′ → row′ ≡ row → ((e : ℕ) → Fifo e start row)
       → Inv (changedState (view (store wk′ (st .persistent) tr′) sz (p .clock)) u x row) → Good sz start (store wk′ (st .persistent) tr′) (withRow row′)
-  good-change i z a o b f v =
+  good-change i z a o d b f v =
       record {
         clock-hi = g .clock-hi;
         working = i;
@@ -142,6 +147,7 @@ module _ {sz : Sizes} {start : Jobs} {st : Store} {p : Plain} (g : Good sz start
         notes = notes-after (z .long) (g .notes);
         opens = let o = opens-after z (g .opens) in record { same = o .same; least = o .least; low = o .low; high = o .high; quiet = o .quiet };
         past = record { ended-hi = g .past .ended-hi; durable-hi = g .past .durable-hi };
+        index = d;
         inv = rw (a, o, b, z .phase, z .slot) v;
         fifo = rw b f;
       }

@@ -23,6 +23,7 @@ use Rattle.acceptance.specs.Requires.{nameless}
 use Rattle.acceptance.specs.Sound.{says-accepted}
 use Rattle.format.specs.Format.{freshImage, format}
 use Rattle.format.specs.Requires.{formatFits, freshStore}
+use Rattle.guarantee.specs.Indexing.{freed-unfilled}
 use Rattle.guarantee.specs.Clean.{free-blank, Begins, blank-clean, survivor-kept, on-survives, free-proper, clean-good}
 
 module _ (n w : ℕ) (sizes : InRange n w) where
@@ -108,6 +109,7 @@ module _ (n w : ℕ) (sizes : InRange n w) where
       (omega arith)
       (λ s h v. never _ v (fresh-dead (slotsOf image) s))
       (λ s h v. never _ (on-survives image (slotsOf image) queueBoard s v) (fresh-dead (slotsOf image) s))
+      (λ s h. rw (fresh-header s) freed-unfilled)
       (rw fresh-slots t))
 
 -- what an accepted format judged

@@ -9,6 +9,7 @@ use Rattle.transient.specs.declared.sizes.Sizes.{Sizes}
 use Rattle.transient.specs.Layout.{note, nextUidAt, nextOrderAt, phaseAt, placeAt, openEpoch}
 use Rattle.transient.specs.Requires.{Notes}
 use Rattle.transient.specs.Store.{Store}
+use Rattle.index.specs.Indexed.{Indexed}
 use Rattle.crash.specs.Reference.{Jobs, Fifo}
 use Rattle.crash.specs.Slots.{State, Inv}
 use Rattle.advance.specs.Stages.{underway}
@@ -60,5 +61,7 @@ pub record Good (sz : Sizes) (start : Jobs) (st : Store) (p : Plain) : Type 0 wh
   pub notes : Notes (st .transient) sz
   pub opens : Opens sz (st .transient) p
   pub past : Past p
+  -- 02, No. 6: the index "holds each filled slot under its board and key, and no other slot, as it must in every run"
+  pub index : Indexed sz (st .working) (st .transient)
   pub inv : Inv (stateOf sz start st p)
   pub fifo : (e : ℕ) → Fifo e start (p .row)

@@ -5,6 +5,7 @@ pub mod Good
 pub mod Says
 pub mod Notes
 pub mod Images
+pub mod Indexing
 pub mod Copying
 pub mod Frame
 pub mod Changing

@@ -23,8 +23,10 @@ use Rattle.transient.specs.Layout.{note, lastAt, retiredIn}
 use Rattle.transient.specs.Store.{Store, Table, tableOf}
 use Rattle.table.specs.declared.find.Lookup.{Lookup}
 use Rattle.table.specs.declared.find.Lookup.the-variants.{Later, Live, Absent}
-use Rattle.table.specs.Find.{newerAt, liveAt, liveSlot, lookup, freeAt, room}
+use Rattle.index.specs.Indexed.{indexed-listed}
+use Rattle.table.specs.Find.{listed, newerAt, liveAt, newerOn, liveOn, liveSlot, lookup, freeAt, room}
 use Rattle.table.specs.Requires.{newer, lookedUp}
+use Rattle.table.specs.Laws.{Called}
 use Rattle.crash.specs.Reference.{Jobs}
 use Rattle.crash.specs.Slots.{Slot, Filled, Payload, Proper}
 use Rattle.guarantee.specs.Trace.{Plain}
@@ -34,21 +36,21 @@ use Rattle.guarantee.specs.Says.{payload-of, proper-filled, proper-paylo
 
 -- ---- what a look-up says
 pub record Missing (sz : Sizes) (tb : Table) (name : Name) (e : ℕ) : Type 0 where
-  pub newest : newer sz (tb .working) name e ≡ false
+  pub newest : newer sz tb name e ≡ false
   pub none : liveSlot sz tb name ≡ Nothing
 
 pub record Holding (sz : Sizes) (tb : Table) (name : Name) (e s : ℕ) : Type 0 where
-  pub newest : newer sz (tb .working) name e ≡ false
+  pub newest : newer sz tb name e ≡ false
   pub found : liveSlot sz tb name ≡ At s
 
 module _ (sz : Sizes) (tb : Table) (name : Name) (e : ℕ) where
-  looked : (k : Lookup) → lookup sz tb name e ≡ k → k ≢ Later → (newer sz (tb .working) name e ≡ false) × (lookedUp (liveSlot sz tb name) ≡ k)
+  looked : (k : Lookup) → lookup sz tb name e ≡ k → k ≢ Later → (newer sz tb name e ≡ false) × (lookedUp (liveSlot sz tb name) ≡ k)
   unfolding lookup newer
   looked k q d =
       ⊎-elim
-      (λ (y : newer sz (tb .working) name e ≡ true). let z : Later ≡ k = rw y at q in absurd (d (sym z)))
-      (λ (y : newer sz (tb .working) name e ≡ false). (y, rw y at q))
-      (cases (newer sz (tb .working) name e))
+      (λ (y : newer sz tb name e ≡ true). let z : Later ≡ k = rw y at q in absurd (d (sym z)))
+      (λ (y : newer sz tb name e ≡ false). (y, rw y at q))
+      (cases (newer sz tb name e))
 
   pub absent-says : lookup sz tb name e ≡ Absent → Missing sz tb name e
   absent-says q =
@@ -91,8 +93,8 @@ module _ {sz : Sizes} {start : Jobs} {st : Store} {p : Plain} (g : Good sz start
       empty : 1 ≤ 0 → ⊥
       empty h = omega arith
 
-  pub name-is : (m : ℕ) → m < sz .n → slots m .working .name ≡ nameAt (st .working) (sz .n) (sz .w) m
-  name-is m h = rw (view-in st sz (p .clock) m h) (sym (name-contents (st .working) (sz .n) (sz .w) m (omega (arith, g .working .sized .sizes .width-lo))))
+  pub slot-name : (m : ℕ) → m < sz .n → slots m .working .name ≡ nameAt (st .working) (sz .n) (sz .w) m
+  slot-name m h = rw (view-in st sz (p .clock) m h) (sym (name-contents (st .working) (sz .n) (sz .w) m (omega (arith, g .working .sized .sizes .width-lo))))
 
   -- working headers are proper, so what has a kind is filled
   proper-at : (m : ℕ) → m < sz .n → Proper (p .clock) (entryOf (header (st .working) m) (contents (st .working) (sz .n) (sz .w) m))
@@ -113,29 +115,38 @@ module _ {sz : Sizes} {start : Jobs} {st : Store} {p : Plain} (g : Good sz start
         | no z ↦ never _ (filled-at s h (omega arith)) (not-true _ f)
       ])
 
+  -- a filled slot of this name is on its chain
+  listed-at : {name : Name} (m : ℕ) → m < sz .n → isFilled (header (st .working) m) ≡ true → nameAt (st .working) (sz .n) (sz .w) m ≡ name → listed sz (st .transient) name m ≡ true
+  unfolding listed
+  listed-at m h f q = rw q at (indexed-listed (g .index) m h f)
+
   -- refusal 9 passed: no filled slot of this name has a later epoch
-  pub no-later-of : {name : Name} {e : ℕ} → newer sz (st .working) name e ≡ false → (m : ℕ) → Filled (slots m .working) → slots m .working .name ≡ name → slots m .working .epoch ≤ e
-  unfolding newer newerAt
+  pub no-later-of : {name : Name} {e : ℕ} → newer sz (tableOf st) name e ≡ false → (m : ℕ) → Filled (slots m .working) → slots m .working .name ≡ name → slots m .working .epoch ≤ e
+  unfolding newer newerOn newerAt
   no-later-of {name} {e} q m f k =
       let h = filled-in m f in
       let f′ = rw (view-in st sz (p .clock) m h) at f in
-      let off = some-none (newerAt sz (st .working) name e) (sz .n) q m h in
+      let off = some-none (newerOn sz (tableOf st) name e) (sz .n) q m h in
+      let full = filled-at m h f′ in
+      let named = sym (slot-name m h) ∙ k in
       rw (view-in st sz (p .clock) m h)
       (elim (decLe (header (st .working) m .epoch) e) [
         | yes y ↦ y
-        | no y ↦ never _ (and-both (filled-at m h f′) (and-both (name-same _ _ (sym (name-is m h) ∙ k)) (lt-ltb e _ (omega arith)))) off
+        | no y ↦ never _ (and-both (listed-at m h full named) (and-both full (and-both (name-same _ _ named) (lt-ltb e _ (omega arith))))) off
       ])
 
   -- no live job of this name
   pub no-live-of : {name : Name} → liveSlot sz (tableOf st) name ≡ Nothing → (m : ℕ) → Payload (slots m .working) → slots m .working .name ≡ name → 1 ≤ slots m .retired
-  unfolding liveSlot liveAt
+  unfolding liveSlot liveOn liveAt
   no-live-of {name} q m f k =
       let h = filled-in m (f .0) in
       let f′ = rw (view-in st sz (p .clock) m h) at f in
-      let off = found-nothing (liveAt sz (tableOf st) name) (sz .n) q m h in
+      let off = found-nothing (liveOn sz (tableOf st) name) (sz .n) q m h in
+      let full = filled-at m h (f′ .0) in
+      let named = sym (slot-name m h) ∙ k in
       rw (view-in st sz (p .clock) m h)
       (elim (ℕ-discrete (retiredIn sz (st .transient) m) 0) [
-        | yes z ↦ never _ (and-both (payload-at m h f′) (and-both (eq-eqb _ 0 z) (name-same _ _ (sym (name-is m h) ∙ k)))) off
+        | yes z ↦ never _ (and-both (listed-at m h full named) (and-both (payload-at m h f′) (and-both (eq-eqb _ 0 z) (name-same _ _ named)))) off
         | no z ↦ omega arith
       ])
 
@@ -146,18 +157,26 @@ module _ {sz : Sizes} {start : Jobs} {st : Store} {p : Plain} (g : Good sz start
     pub current : slots s .retired ≡ 0
     pub named : slots s .working .name ≡ name
 
+  pub lives-called : {name : Name} {s : ℕ} → Lives name s → Called sz (st .working) name s
+  lives-called {name} {s} l =
+      record {
+        filled = filled-at s (l .below) (rw (view-in st sz (p .clock) s (l .below)) at (l .payload .0));
+        named = sym (slot-name s (l .below)) ∙ l .named;
+      }
+
   pub live-of : {name : Name} {s : ℕ} → liveSlot sz (tableOf st) name ≡ At s → Lives name s
-  unfolding liveSlot liveAt
+  unfolding liveSlot liveOn liveAt
   live-of {name} {s} q =
-      let f = found-first (liveAt sz (tableOf st) name) (sz .n) q in
+      let f = found-first (liveOn sz (tableOf st) name) (sz .n) q in
       let h = f .below in
+      let lives = and-right (listed sz (st .transient) name s) _ (f .passes) in
       let a = isPayload (header (st .working) s) in
       let b = eqb (retiredIn sz (st .transient) s) 0 in
-      let rest = and-right a _ (f .passes) in
-      let pay = payload-of (header (st .working) s) (and-left a _ (f .passes)) in
+      let rest = and-right a _ lives in
+      let pay = payload-of (header (st .working) s) (and-left a _ lives) in
       record {
         below = h;
         payload = rw (view-in st sz (p .clock) s h) pay;
         current = rw (view-in st sz (p .clock) s h) (eqb-true _ 0 (and-left b _ rest));
-        named = name-is s h ∙ same-name _ _ (and-right b _ rest);
+        named = slot-name s h ∙ same-name _ _ (and-right b _ rest);
       }

@@ -13,16 +13,18 @@ use Rattle.search.specs.declared.Found.{Found}
 use Rattle.search.specs.declared.Found.the-variants.{At, Nothing}
 use Rattle.reply.specs.declared.Check.the-variants.{Accepted}
 use Rattle.reply.specs.declared.Refusal.the-variants.{Newer, JobExists, NoUid, Full}
-use Rattle.image.specs.Layout.{mostNumber, jobsBoard, queueBoard, freshHeader}
+use Rattle.image.specs.Layout.{mostNumber, jobsBoard, queueBoard, isFilled, freshHeader}
 use Rattle.image.specs.declared.name.Name.{Name}
 use Rattle.image.specs.Name.{jobName, Named}
 use Rattle.transient.specs.declared.sizes.Sizes.{Sizes}
 use Rattle.transient.specs.Layout.{note, lastAt, nextUidAt, nextOrderAt, openEpoch}
+use Rattle.transient.specs.Laws.{IndexKept, index-then, uid-index}
 use Rattle.transient.specs.Store.{Store, store, table}
 use Rattle.transient.specs.Calls.{Changed}
 use Rattle.table.specs.declared.find.Lookup.{Lookup}
 use Rattle.table.specs.declared.find.Lookup.the-variants as look
 use Rattle.table.specs.Find.{lookup, room, freeAt}
+use Rattle.table.specs.Fill.{taken}
 use Rattle.jobs.specs.Job.{Job, badJob, made}
 use Rattle.jobs.specs.Laws.{job-named, job-words}
 use Rattle.job_new.specs.New.{newAbsent, newJob}
@@ -35,7 +37,8 @@ use Rattle.guarantee.specs.View.{view}
 use Rattle.guarantee.specs.Good.{Good}
 use Rattle.guarantee.specs.Notes.{Joined, made-joins}
 use Rattle.guarantee.specs.Images.{wrote-image, filled-wrote}
-use Rattle.guarantee.specs.Frame.{operation-of, change-put, change-joins, good-change, row-epoch, fifo-after, value-owes, job-owes}
+use Rattle.guarantee.specs.Indexing.{made-filled, kept-indexed, took}
+use Rattle.guarantee.specs.Frame.{good-shaped, operation-of, change-put, change-joins, good-change, row-epoch, fifo-after, value-owes, job-owes}
 use Rattle.guarantee.specs.Lookups.{Missing, absent-says, room-says, free-says, no-later-of, no-live-of}
 use Rattle.guarantee.specs.Changing.{Fine, fine-refused, fine-declines, fine-way, fine-call, last-below}
 
@@ -56,16 +59,22 @@ module _ {sz : Sizes} {start : Jobs} {wk l tr : List ℕ} {p : Plain} (thread : 
   pub made-good : (s : ℕ) (name : Name) (v : Value) {tr′ : List ℕ} {x : ℕ} → s < sz .n → freeAt wk s ≡ true
       → Fresh (view (store wk l tr) sz (p .clock)) (openEpoch tr thread) (note nextOrderAt tr) name x → note nextUidAt tr ≤ mostNumber → length v + 1 ≡ sz .w
       → Joined sz tr tr′ (openEpoch tr thread) s 0 (note nextUidAt tr + 1) x
+      → IndexKept sz (made sz (table wk tr) (openEpoch tr thread) s name v .transient) tr′
       → Good sz start (store (made sz (table wk tr) (openEpoch tr thread) s name v .working) l tr′) (toldChange thread name (some v) Accepted p)
   unfolding made
-  made-good s name v h f k u words i =
+  made-good s name v h f k u words i kept =
       let e = openEpoch tr thread in
+      let o = operation-of g thread within begun in
+      let new : isFilled (freshHeader e (note nextUidAt tr) (name .board)) ≡ true =
+      made-filled (omega arith) (omega arith) (omega (arith, o .epoch-least)) (g .inv .uid-lo) (k .board-lo) in
       let a = filled-wrote (g .working .sized) h (freshHeader e (note nextUidAt tr) (name .board)) (name .key ∷ v) (omega (arith, words)) in
       let up : note nextUidAt tr + 1 ≡ suc (note nextUidAt tr) = omega arith in
-      good-change g (wrote-image a (g .working)) (i .head) (i .uid ∙ up) (i .order) (row-epoch g thread name (some v) within)
-      (fifo-after g e name (some v) (λ b. value-owes b))
+      good-change g (wrote-image a (g .working)) (i .head) (i .uid ∙ up) (i .order)
+      (kept-indexed (index-then (uid-index (taken sz tr e s name) sz (note nextUidAt tr + 1)) kept)
+      (took (good-shaped g) (g .index) e s (freshHeader e (note nextUidAt tr) (name .board)) (name .key) v h f new words))
+      (row-epoch g thread name (some v) within) (fifo-after g e name (some v) (λ b. value-owes b))
       (new-inv (g .inv) record {
-        operation = operation-of g thread within begun;
+        operation = o;
         joins = change-joins g a i h;
         free = free-says g h f;
         named = k .named;
@@ -82,7 +91,7 @@ module _ {sz : Sizes} {start : Jobs} {wk l tr : List ℕ} {p : Plain} (thread : 
   pub made-notes : (s : ℕ) (name : Name) (v : Value) → s < sz .n
       → Joined sz tr (made sz (table wk tr) (openEpoch tr thread) s name v .transient) (openEpoch tr thread) s 0 (note nextUidAt tr + 1) (note nextOrderAt tr)
   unfolding made
-  made-notes s name v h = made-joins (g .notes) (openEpoch tr thread) s h (note nextUidAt tr + 1)
+  made-notes s name v h = made-joins (g .notes) (openEpoch tr thread) s name h (note nextUidAt tr + 1)
 
 -- ---- new
 module _ {sz : Sizes} {start : Jobs} {wk l tr : List ℕ} {p : Plain} (thread : ℕ) (j : Job) (g : Good sz start (store wk l tr) p)
@@ -107,7 +116,7 @@ module _ {sz : Sizes} {start : Jobs} {wk l tr : List ℕ} {p : Plain} (thread : 
               no-live = no-live-of g (m .none);
               no-later = no-later-of g (m .newest);
             })
-            u words (made-notes thread g within begun s (jobName (j .key)) (j .value) h);
+            u words (made-notes thread g within begun s (jobName (j .key)) (j .value) h) (record { words = λ i b. refl });
       }
 
   -- 12 and 13

@@ -5,11 +5,13 @@ use mathlib.Core.Path.{_≡_, _∙_}
 use mathlib.Core.Bool.{true}
 use mathlib.Core.Logic.{_≢_}
 use mathlib.Core.List.{List}
+use Rattle.image.specs.declared.name.Name.{Name}
 use Rattle.transient.specs.declared.sizes.Sizes.{Sizes}
 use Rattle.transient.specs.Layout.{note, nextUidAt, nextOrderAt, retiredIn, isWaiting, setNote, setRetired, setWaiting}
 use Rattle.transient.specs.Requires.{Notes, notes-after}
-use Rattle.transient.specs.Laws.{HeadKept, SlotKept, head-then, slot-then, last-head, last-slots, last-uid, last-order, uid-head, uid-slots, uid-order, order-head, order-slots, order-uid, order-set, retired-front, waiting-front, uid-set, retired-same, retired-waiting, retired-aside, waiting-joined, waiting-stays, waiting-retired, waiting-aside}
-use Rattle.table.specs.Fill.{joined, taken}
+use Rattle.transient.specs.Laws.{HeadKept, SlotKept, head-then, slot-then, last-head, last-slots, last-uid, last-order, uid-head, uid-slots, uid-order, order-head, order-slots, order-uid, order-set, retired-front, waiting-front, uid-set, retired-same, retired-waiting, retired-aside, waiting-joined, waiting-stays, waiting-retired, waiting-aside, IndexOnly, beside-front, beside-slots}
+use Rattle.index.specs.Laws.{inserted-only, removed-only}
+use Rattle.table.specs.Fill.{joined, taken, freed}
 
 pub record Joined (sz : Sizes) (tr tr′ : List ℕ) (e s r u x : ℕ) : Type 0 where
   pub head : HeadKept sz tr tr′
@@ -49,13 +51,33 @@ module _ {tr : List ℕ} {sz : Sizes} (y : Notes tr sz) (e s : ℕ) (h : s < sz 
         order = waiting-front tr′ sz e s .order ∙ retired-front tr sz s 0 .order;
       }
 
-module _ {tr : List ℕ} {sz : Sizes} (y : Notes tr sz) (e s : ℕ) (h : s < sz .n) where
-  pub taken-joins : Joined sz tr (taken sz tr e s) e s 0 (note nextUidAt tr) (note nextOrderAt tr)
+-- .. and what changes besides is the index alone
+module _ {tr tr′ tr″ : List ℕ} {sz : Sizes} {e s r u x : ℕ} (j : Joined sz tr tr′ e s r u x) (h : s < sz .n) (o : IndexOnly sz tr′ tr″) where
+  beside-joins : Joined sz tr tr″ e s r u x
+  beside-joins =
+      let front = beside-front o in
+      let kept = beside-slots o in
+      record {
+        head = head-then (j .head) (front .head);
+        others = λ m k d. slot-then (j .others m k d) (kept m k);
+        retired = kept s h .retired ∙ j .retired;
+        joins = kept s h .waiting e ∙ j .joins;
+        stays = λ d q. kept s h .waiting d ∙ j .stays d q;
+        uid = front .uid ∙ j .uid;
+        order = front .order ∙ j .order;
+      }
+
+module _ {tr : List ℕ} {sz : Sizes} (y : Notes tr sz) (e s : ℕ) (name : Name) (h : s < sz .n) where
+  pub freed-joins : Joined sz tr (freed sz tr e s name) e s 0 (note nextUidAt tr) (note nextOrderAt tr)
+  unfolding freed
+  freed-joins = beside-joins (joined-joins y e s h) h (removed-only sz _ name s)
+
+  pub taken-joins : Joined sz tr (taken sz tr e s name) e s 0 (note nextUidAt tr) (note nextOrderAt tr)
   unfolding taken
   taken-joins =
       let a = last-head tr sz s in
       let j = joined-joins (notes-after (a .long) y) e s h in
-      record {
+      beside-joins (record {
         head = head-then a (j .head);
         others = λ m k d. slot-then (last-slots tr sz s m) (j .others m k d);
         retired = j .retired;
@@ -63,20 +85,20 @@ module _ {tr : List ℕ} {sz : Sizes} (y : Notes tr sz) (e s : ℕ) (h : s < sz 
         stays = λ d q. j .stays d (last-slots tr sz s s .waiting d ∙ q);
         uid = j .uid ∙ last-uid tr sz s;
         order = j .order ∙ last-order tr sz s;
-      }
+      }) h (inserted-only sz _ name s)
 
-  pub made-joins : (u : ℕ) → Joined sz tr (setNote nextUidAt (taken sz tr e s) u) e s 0 u (note nextOrderAt tr)
+  pub made-joins : (u : ℕ) → Joined sz tr (setNote nextUidAt (taken sz tr e s name) u) e s 0 u (note nextOrderAt tr)
   made-joins u =
       let j = taken-joins in
-      let kept = uid-slots (taken sz tr e s) sz u in
+      let kept = uid-slots (taken sz tr e s name) sz u in
       record {
-        head = head-then (j .head) (uid-head (taken sz tr e s) sz u);
+        head = head-then (j .head) (uid-head (taken sz tr e s name) sz u);
         others = λ m k d. slot-then (j .others m k d) (kept m);
         retired = kept s .retired ∙ j .retired;
         joins = kept s .waiting e ∙ j .joins;
         stays = λ d q. kept s .waiting d ∙ j .stays d q;
         uid = uid-set (notes-after (j .head .long) y) u;
-        order = uid-order (taken sz tr e s) sz u ∙ j .order;
+        order = uid-order (taken sz tr e s name) sz u ∙ j .order;
       }
 
 -- .. and another order number is set

@@ -15,7 +15,7 @@ use Rattle.transient.specs.Layout.{openEpoch, setOpen}
 use Rattle.transient.specs.Store.{Store, store, tableOf}
 use Rattle.transient.specs.Calls.{Changed}
 use Rattle.transient.specs.Requires.{notes-after}
-use Rattle.transient.specs.Laws.{open-same, open-other, open-slots, open-phase, open-slot, open-uid, open-order, open-long}
+use Rattle.transient.specs.Laws.{open-same, open-other, open-slots, open-index, open-phase, open-slot, open-uid, open-order, open-long}
 use Rattle.begin_end.specs.Operation.{begin, end}
 use Rattle.begin_end.specs.Stages.{beginSized, endSized}
 use Rattle.jobs.specs.Laws.{declines-way}
@@ -23,6 +23,7 @@ use Rattle.advance.specs.Stages.{underway}
 use Rattle.crash.specs.Reference.{Jobs}
 use Rattle.guarantee.specs.Trace.{Plain, plain, toldBegin, toldEnd}
 use Rattle.guarantee.specs.View.{view, same-view}
+use Rattle.guarantee.specs.Indexing.{kept-indexed}
 use Rattle.guarantee.specs.Good.{Opens, Good}
 use Rattle.guarantee.specs.Changing.{way-way, call-way, sizes-is}
 
@@ -76,6 +77,7 @@ module _ {sz : Sizes} {start : Jobs} {wk l tr : List ℕ} {p : Plain} (thread e 
         notes = notes-after (open-long tr sz thread e) (g .notes);
         opens = opens-set;
         past = record { ended-hi = bounds; durable-hi = g .past .durable-hi };
+        index = kept-indexed (open-index tr sz thread e within) (g .index);
         inv = rw (view-is, open-phase tr sz thread e, open-slot tr sz thread e, open-uid tr sz thread e, open-order tr sz thread e) (g .inv);
         fifo = g .fifo;
       }

@@ -24,6 +24,7 @@ use Rattle.image.specs.declared.name.Name.{Name}
 use Rattle.image.specs.Name.{entryName, name-is as name-made, names-meet, key-same}
 use Rattle.transient.specs.declared.sizes.Sizes.{Sizes}
 use Rattle.transient.specs.Layout.{note, lastAt, nextUidAt, nextOrderAt, openEpoch, retiredIn, setNote}
+use Rattle.transient.specs.Laws.{order-index}
 use Rattle.transient.specs.Store.{Store, store, table, tableOf}
 use Rattle.transient.specs.Calls.{Changed, onStore}
 use Rattle.table.specs.declared.find.Lookup.{Lookup}
@@ -48,7 +49,7 @@ use Rattle.guarantee.specs.Good.{stateOf, Good}
 use Rattle.guarantee.specs.Notes.{Joined, order-joins}
 use Rattle.guarantee.specs.Says.{payload-of}
 use Rattle.guarantee.specs.Frame.{operation-of}
-use Rattle.guarantee.specs.Lookups.{Lives, filled-in, name-is, filled-at, payload-at, room-says}
+use Rattle.guarantee.specs.Lookups.{Lives, filled-in, slot-name, filled-at, payload-at, room-says}
 use Rattle.guarantee.specs.Changing.{Fine, fine-refused, fine-declines, fine-way, fine-call, sizes-is, last-below, order-low}
 use Rattle.guarantee.specs.Making.{Fresh, made-good, made-notes}
 use Rattle.guarantee.specs.Replacing.{gone-fine}
@@ -62,7 +63,7 @@ module _ {sz : Sizes} {start : Jobs} {st : Store} {p : Plain} (g : Good sz start
   board-of m h = rw (view-in st sz (p .clock) m h)
 
   key-of : (m : ℕ) → m < sz .n → slots m .working .name .key ≡ keyAt (st .working) (sz .n) (sz .w) m
-  key-of m h = key-same (name-is g m h ∙ name-made (st .working) (sz .n) (sz .w) m)
+  key-of m h = key-same (slot-name g m h ∙ name-made (st .working) (sz .n) (sz .w) m)
 
   -- refusal 9 passed: no entry has a later epoch
   no-newer : {e : ℕ} → e ≢ 0 → anyOf (entryNewerAt (st .working) e) (sz .n) ≡ false
@@ -142,7 +143,7 @@ module _ {sz : Sizes} {start : Jobs} {wk l tr : List ℕ} {p : Plain} (thread : 
 
   appended-fine : (s : ℕ) → s < sz .n → freeAt wk s ≡ true → note nextUidAt tr ≤ mostNumber → order ≤ mostNumber → Good′ (appendAt sz (table wk tr) e s value)
   unfolding appendAt
-  appended-fine s h f u o = record { good = made-good thread g within begun s (entryName order) value h f (given-fresh o) u words (given-notes s h) }
+  appended-fine s h f u o = record { good = made-good thread g within begun s (entryName order) value h f (given-fresh o) u words (given-notes s h) (order-index _ sz (order + 1)) }
 
   -- 12: both numbers can be given
   both-left : noNumber tr ≡ false → (note nextUidAt tr ≤ mostNumber) × (order ≤ mostNumber)

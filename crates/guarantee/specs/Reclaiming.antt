@@ -16,9 +16,11 @@ use Rattle.image.specs.declared.header.Header.{Header}
 use Rattle.image.specs.Layout.{hasZero, isFilled, isPayload, header, contents, freeHeader}
 use Rattle.image.specs.Line.{headerLine, storeLine}
 use Rattle.image.specs.Whole.{says-whole, filled-says}
+use Rattle.image.specs.Name.{nameAt}
 use Rattle.transient.specs.declared.sizes.Sizes.{Sizes}
 use Rattle.transient.specs.Layout.{retiredIn, setRetired, setPlace}
 use Rattle.transient.specs.Store.{Store, Table, store, tableOf}
+use Rattle.index.specs.Index.{removed}
 use Rattle.step.specs.Step.{flushFrom, reclaimNext, contentsNext, due, reclaimed, reclaimFrom, passing}
 use Rattle.step.specs.Stages.{dueFrom}
 use Rattle.crash.specs.Table.{Put}
@@ -31,6 +33,7 @@ use Rattle.crash.specs.Places.{looks-inv}
 use Rattle.guarantee.specs.Trace.{Plain}
 use Rattle.guarantee.specs.View.{view, view-in}
 use Rattle.guarantee.specs.Good.{stateOf, Good}
+use Rattle.guarantee.specs.Indexing.{freed-unfilled, reclaimed-indexed}
 use Rattle.guarantee.specs.Images.{Wrote, wrote-image, header-wrote}
 use Rattle.guarantee.specs.Lookups.{filled-at, payload-at}
 use Rattle.guarantee.specs.Stepping.{lookedTo, passing-looked, Noted, noted-cleared, step-put, Reached, Ready, went-good}
@@ -117,7 +120,7 @@ module _ {sz : Sizes} {start : Jobs} {st : Store} {p : Plain} (y : Ready sz star
     l = storeLine (st .persistent) (headerLine s freeHeader)
 
     abbrev tr : List ℕ
-    tr = setRetired sz (st .transient) s 0
+    tr = removed sz (setRetired sz (st .transient) s 0) (nameAt (st .working) (sz .n) (sz .w) s) s
 
     abbrev st′ : Store
     st′ = store wk l (setPlace tr phase slot)
@@ -129,7 +132,7 @@ module _ {sz : Sizes} {start : Jobs} {st : Store} {p : Plain} (y : Ready sz star
     persistent-freed = header-wrote (y .good .persistent .sized) h freeHeader
 
     notes-freed : Noted sz (st .transient) (st′ .transient) s 0
-    notes-freed = noted-cleared (y .good .notes) s phase slot h
+    notes-freed = noted-cleared (y .good .notes) s phase slot (nameAt (st .working) (sz .n) (sz .w) s) h
 
     freed-put : Put slots (view st′ sz c) s (steps.reclaimed (slots s))
     freed-put = rw (view-in st sz c s h) (step-put st st′ sz c s 0 working-freed persistent-freed notes-freed h)
@@ -139,11 +142,21 @@ module _ {sz : Sizes} {start : Jobs} {st : Store} {p : Plain} (y : Ready sz star
         let z : m ≡ s = omega arith in
         rw (z, freed-put .here) (record { retired = λ q. absurd (omega arith); anti = λ q. absurd (omega arith) })
 
+    -- a slot that is due is filled
+    due-filled : due sz (tableOf st) c s ≡ true → isFilled (header (st .working) s) ≡ true
+    due-filled d =
+        let o = rw (view-in st sz c s h) at (y .good .inv .one s) in
+        ⊎-elim
+        (λ b. filled-at (y .good) s h (o .retired-of (b .0) .0 .0))
+        (λ b. filled-at (y .good) s h (omega (arith, b .0)))
+        (due-says sz (tableOf st) c s d)
+
     freed-good : due sz (tableOf st) c s ≡ true → Reached sz start st p (lookedTo s) → Good sz start st′ p
     freed-good d i =
         let x : Reclaim s (moved (stateOf sz start st p) slots (lookedTo s)) (view st′ sz c) =
         record { due = rw (view-in st sz c s h) (due-says sz (tableOf st) c s d); put = freed-put } in
         went-good y tr phase slot (wrote-image working-freed (y .good .working)) (wrote-image persistent-freed (y .good .persistent)) notes-freed
+        (reclaimed-indexed working-freed (omega (arith, y .good .working .sized .sizes .width-lo)) h (y .good .index) (y .good .notes) _ (due-filled d) refl freed-unfilled)
         (passing-looked (sz .n) s h) (looks-inv (s + 1) (reclaim-inv i x) (record { swept = freed-swept }))
 
   -- the next slot that is due, or the first that waits, or the clock

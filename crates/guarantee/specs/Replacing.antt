@@ -38,10 +38,11 @@ use Rattle.crash.specs.Unmake.{unmake-inv}
 use Rattle.guarantee.specs.Trace.{Plain, toldChange}
 use Rattle.guarantee.specs.View.{view, slotOf, view-in}
 use Rattle.guarantee.specs.Good.{stateOf, Good}
-use Rattle.guarantee.specs.Notes.{waiting-joins, joined-joins}
+use Rattle.guarantee.specs.Notes.{waiting-joins, freed-joins}
+use Rattle.guarantee.specs.Indexing.{rewritten-stays, turned-stays, freed-stays}
 use Rattle.guarantee.specs.Images.{wrote-image, header-wrote, value-wrote}
-use Rattle.guarantee.specs.Frame.{operation-of, change-put, change-joins, good-change, Owes, fifo-after, value-owes, job-owes, row-epoch}
-use Rattle.guarantee.specs.Lookups.{Holding, Lives, live-says, live-of, no-later-of}
+use Rattle.guarantee.specs.Frame.{good-shaped, operation-of, change-put, change-joins, good-change, Owes, fifo-after, value-owes, job-owes, row-epoch}
+use Rattle.guarantee.specs.Lookups.{Holding, Lives, live-says, live-of, no-later-of, lives-called}
 use Rattle.guarantee.specs.Changing.{Fine, fine-refused, fine-way, fine-call, last-below}
 use Rattle.guarantee.specs.Superseding.{super-fine}
 
@@ -82,7 +83,9 @@ module _ {sz : Sizes} {start : Jobs} {wk l tr : List ℕ} {p : Plain} (thread : 
         rw (at-slot, key-contents wk (sz .n) (sz .w) s (omega (arith, g .working .sized .sizes .width-lo))) in
         let r : retiredIn sz tr s ≡ old .retired = rw at-slot in
         record {
-          good = good-change g (wrote-image a (g .working)) (j .head) (j .uid) (j .order) (row-epoch g thread name (some v) within) (fifo-after g e name (some v) (λ b. value-owes b))
+          good = good-change g (wrote-image a (g .working)) (j .head) (j .uid) (j .order)
+              (rewritten-stays (good-shaped g) (g .index) e (lives .below) (lives-called g lives) v long)
+              (row-epoch g thread name (some v) within) (fifo-after g e name (some v) (λ b. value-owes b))
               (rw (lives .named) at (set-inv (g .inv) (in-place-as x r current (change-joins g a j (lives .below)) epoch-is (change-put g a j (lives .below)))));
         }
 
@@ -95,19 +98,23 @@ module _ {sz : Sizes} {start : Jobs} {wk l tr : List ℕ} {p : Plain} (thread : 
         let x : entry 3 e (header wk s .uid) (nameOf (header wk s .board) (getD words 0 0)) (drop 1 words) ≡ steps.turned (old .working) = rw (at-slot, same) in
         let r : retiredIn sz tr s ≡ old .retired = rw at-slot in
         record {
-          good = good-change g (wrote-image a (g .working)) (j .head) (j .uid) (j .order) (row-epoch g thread name none within) (fifo-after g e name none owes)
+          good = good-change g (wrote-image a (g .working)) (j .head) (j .uid) (j .order)
+              (turned-stays (good-shaped g) (g .index) e (lives .below) (lives-called g lives) begun)
+              (row-epoch g thread name none within) (fifo-after g e name none owes)
               (rw (lives .named) at (turn-inv (g .inv) (in-place-as x r current (change-joins g a j (lives .below)) epoch-is (change-put g a j (lives .below)))));
         }
 
-    freed-fine : Owes g e name none → header wk s .kind ≡ 1 → Fine sz start l p thread name none (freedAt sz (table wk tr) e s)
+    freed-fine : Owes g e name none → header wk s .kind ≡ 1 → Fine sz start l p thread name none (freedAt sz (table wk tr) e s (name .key))
     unfolding freedAt
     freed-fine owes alloc =
         let a = header-wrote (g .working .sized) (lives .below) freeHeader in
-        let j = joined-joins (g .notes) e s (lives .below) in
+        let j = freed-joins (g .notes) e s (nameOf (header wk s .board) (name .key)) (lives .below) in
         let x : entry 0 0 0 (nameOf 0 (getD words 0 0)) (drop 1 words) ≡ steps.freed (old .working) = rw at-slot in
         let one : old .working .kind ≡ 1 = rw at-slot alloc in
         record {
-          good = good-change g (wrote-image a (g .working)) (j .head) (j .uid) (j .order) (row-epoch g thread name none within) (fifo-after g e name none owes)
+          good = good-change g (wrote-image a (g .working)) (j .head) (j .uid) (j .order)
+              (freed-stays (good-shaped g) (g .index) e (lives .below) (lives-called g lives))
+              (row-epoch g thread name none within) (fifo-after g e name none owes)
               (rw (lives .named) at (unmake-inv (g .inv) record {
                 change = in-place-as x (sym (lives .current)) current (change-joins g a j (lives .below)) epoch-is (change-put g a j (lives .below));
                 alloc = one;

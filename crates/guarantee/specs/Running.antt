@@ -82,6 +82,7 @@ module _ (sz : Sizes) (start : Jobs) where
         notes = g .notes;
         opens = let o = g .opens in record { same = o .same; least = o .least; low = o .low; high = o .high; quiet = o .quiet };
         past = record { ended-hi = g .past .ended-hi; durable-hi = λ e i. omega (arith, h e i) };
+        index = g .index;
         inv = g .inv;
         fifo = g .fifo;
       }

@@ -20,12 +20,14 @@ use Rattle.transient.specs.Layout.{threadsOk}
 use Rattle.transient.specs.Store.{Store, afterCheck}
 use Rattle.survival.specs.Survivors.{survivor, survivesOn}
 use Rattle.acceptance.specs.Accept.{imageCheck}
+use Rattle.acceptance.specs.Sound.{accepted-says}
 use Rattle.recovery.specs.declared.Recovery.the-variants.{Done, Declined}
 use Rattle.recovery.specs.Recover.{nextFreed, nextUid, nextOrder, lengthsFit, recoverCheck, freeing, recover}
 use Rattle.recovery.specs.Requires.{uidOf, finished}
 use Rattle.recovery.specs.Steps.{nonzeroAt, done-survivors}
+use Rattle.recovery.specs.Notes.{recovered-long, recovered-phase, recovered-open, recovered-retired, recovered-uid, recovered-order, recovered-indexed}
 use Rattle.guarantee.specs.Promise.{Started, fresh, recovered}
-use Rattle.guarantee.specs.Clean.{Begins, blank-clean, clean-good}
+use Rattle.guarantee.specs.Clean.{Begins, clean-good}
 use Rattle.guarantee.specs.Fresh.{fresh-good, formats}
 
 -- ---- a recovery that is done
@@ -35,9 +37,20 @@ unfolding finished nonzeroAt nextUid nextOrder
 recovered-good l len ok none t =
     let n = slotsOf l in
     let w = widthOf l in
-    clean-good (blank-clean l len n (nextUid l n) (nextOrder l n w) ok (λ s h f. done-survivors l none s h ∙ not-is-true f) (omega arith)
-    (λ s h v. omega (arith, largest-bounds (survivor l n) (uidOf l) n s h v))
-    (λ s h v. omega (arith, largest-bounds (survivesOn l n queueBoard) (keyAt l n w) n s h v)) t)
+    let long = recovered-long l len n w in
+    let uid = recovered-uid l len n w t in
+    clean-good (record {
+      accepted = ok;
+      just = λ s h f. done-survivors l none s h ∙ not-is-true f;
+      uid-lo = rw uid (omega arith);
+      uids = λ s h v. rw uid (omega (arith, largest-bounds (survivor l n) (uidOf l) n s h v));
+      orders = λ s h v. rw (recovered-order l len n w t) (omega (arith, largest-bounds (survivesOn l n queueBoard) (keyAt l n w) n s h v));
+      threads = rw long t;
+      idle = recovered-phase l len n w;
+      closed = rw long (recovered-open l len n w);
+      not-retired = rw long (recovered-retired l len n w);
+      index = rw long (recovered-indexed l len n w t (accepted-says l ok .sized .sizes .slots-hi));
+    })
 
 -- what a call that replied done judged and found
 record Finishes (st : Store) : Type 0 where

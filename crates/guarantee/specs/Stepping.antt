@@ -12,11 +12,15 @@ use native.Mathlib.Decide.{decLt}
 use Rattle.search.specs.Bools.{flag, refuted, and-left, and-right}
 use Rattle.image.specs.declared.header.Header.{Header}
 use Rattle.image.specs.Layout.{mostNumber}
+use Rattle.image.specs.declared.name.Name.{Name}
 use Rattle.transient.specs.declared.sizes.Sizes.{Sizes}
 use Rattle.transient.specs.Layout.{note, nextUidAt, nextOrderAt, openEpoch, retiredIn, isWaiting, setRetired, setPlace}
 use Rattle.transient.specs.Store.{Store, store}
 use Rattle.transient.specs.Requires.{Notes, notes-after}
-use Rattle.transient.specs.Laws.{SlotKept, slot-then, place-long, place-opens, place-slots, place-uid, place-order, retired-front, retired-same, retired-waiting, retired-aside, phase-set, slot-set}
+use Rattle.transient.specs.Laws.{SlotKept, slot-then, place-long, place-opens, place-slots, place-uid, place-order, place-index, retired-front, retired-same, retired-waiting, retired-aside, phase-set, slot-set, beside-front, beside-slots}
+use Rattle.index.specs.Index.{removed}
+use Rattle.index.specs.Laws.{removed-only}
+use Rattle.index.specs.Indexed.{Indexed}
 use Rattle.step.specs.Step.{idle, reclaimNext, contentsNext, headerNext, clockNext, passing}
 use Rattle.crash.specs.Table.{Put}
 use Rattle.crash.specs.Reference.{Jobs}
@@ -25,6 +29,7 @@ use Rattle.crash.specs.Steps.{atRest, moved}
 use Rattle.guarantee.specs.Trace.{Plain}
 use Rattle.guarantee.specs.View.{entryOf, view, progress, view-put}
 use Rattle.guarantee.specs.Good.{stateOf, Image, Good}
+use Rattle.guarantee.specs.Indexing.{kept-indexed}
 use Rattle.guarantee.specs.Images.{Wrote}
 
 -- ---- places
@@ -88,7 +93,7 @@ pub record Noted (sz : Sizes) (tr tr′ : List ℕ) (s r : ℕ) : Type 0 where
   pub opens : (thread : ℕ) → thread < sz .t → openEpoch tr′ thread ≡ openEpoch tr thread
   pub uid : note nextUidAt tr′ ≡ note nextUidAt tr
   pub order : note nextOrderAt tr′ ≡ note nextOrderAt tr
-  pub others : (m : ℕ) → m ≢ s → SlotKept sz tr tr′ m
+  pub others : (m : ℕ) → m < sz .n → m ≢ s → SlotKept sz tr tr′ m
   pub waiting : (d : ℕ) → isWaiting sz tr′ d s ≡ isWaiting sz tr d s
   pub retired : retiredIn sz tr′ s ≡ r
 
@@ -100,23 +105,28 @@ noted-place sz tr s phase slot =
       opens = λ u h. place-opens tr sz phase slot u;
       uid = place-uid tr sz phase slot;
       order = place-order tr sz phase slot;
-      others = λ m d. kept m;
+      others = λ m k d. kept m;
       waiting = kept s .waiting;
       retired = kept s .retired;
     }
 
-pub noted-cleared : {tr : List ℕ} {sz : Sizes} → Notes tr sz → (s phase slot : ℕ) → s < sz .n → Noted sz tr (setPlace (setRetired sz tr s 0) phase slot) s 0
-noted-cleared {tr} {sz} y s phase slot h =
-    let z = noted-place sz (setRetired sz tr s 0) s phase slot in
-    let a = retired-front tr sz s 0 .head in
+pub noted-cleared : {tr : List ℕ} {sz : Sizes} → Notes tr sz → (s phase slot : ℕ) (name : Name) → s < sz .n
+    → Noted sz tr (setPlace (removed sz (setRetired sz tr s 0) name s) phase slot) s 0
+noted-cleared {tr} {sz} y s phase slot name h =
+    let cleared = setRetired sz tr s 0 in
+    let z = noted-place sz (removed sz cleared name s) s phase slot in
+    let only = removed-only sz cleared name s in
+    let front = beside-front only in
+    let kept = beside-slots only in
+    let a = retired-front tr sz s 0 in
     record {
-      long = z .long ∙ a .long;
-      opens = λ u k. z .opens u k ∙ a .opens u k;
-      uid = z .uid ∙ retired-front tr sz s 0 .uid;
-      order = z .order ∙ retired-front tr sz s 0 .order;
-      others = λ m d. slot-then (retired-aside y s 0 m h d) (z .others m d);
-      waiting = λ d. z .waiting d ∙ retired-waiting y s 0 d s h;
-      retired = z .retired ∙ retired-same y s 0 h;
+      long = z .long ∙ front .head .long ∙ a .head .long;
+      opens = λ u k. z .opens u k ∙ front .head .opens u k ∙ a .head .opens u k;
+      uid = z .uid ∙ front .uid ∙ a .uid;
+      order = z .order ∙ front .order ∙ a .order;
+      others = λ m k d. slot-then (slot-then (retired-aside y s 0 m h d) (kept m k)) (z .others m k d);
+      waiting = λ d. z .waiting d ∙ kept s h .waiting d ∙ retired-waiting y s 0 d s h;
+      retired = z .retired ∙ kept s h .retired ∙ retired-same y s 0 h;
     }
 
 -- ---- the table: slot s is written in both images, or stays
@@ -133,7 +143,7 @@ module _ (st st′ : Store) (sz : Sizes) (c s r : ℕ) {h h′ : Header} {words 
   step-put =
       view-put st st′ sz c s _ k
       (rw (a .header-here, a .line-here, b .header-here, b .line-here, z .retired, z .waiting c, z .waiting (c + 1)))
-      (λ m u d. let o = z .others m d in rw (
+      (λ m u d. let o = z .others m u d in rw (
         a .header-there m u d,
         a .line-there m u d,
         b .header-there m u d,
@@ -156,10 +166,10 @@ pub record Ready (sz : Sizes) (start : Jobs) (st : Store) (p : Plain) : Type 0 w
 -- a step that goes on owes the crash invariant at its place
 pub went-good : {sz : Sizes} {s r : ℕ} {start : Jobs} {st : Store} {p : Plain} {wk l : List ℕ} {q : Place}
     → Ready sz start st p → (tr : List ℕ) (phase slot : ℕ) → Image sz (p .clock) wk → Image sz (p .clock) l
-    → Noted sz (st .transient) (setPlace tr phase slot) s r → progress (sz .n) phase slot ≡ q
+    → Noted sz (st .transient) (setPlace tr phase slot) s r → Indexed sz wk tr → progress (sz .n) phase slot ≡ q
     → Inv (moved (stateOf sz start st p) (view (store wk l (setPlace tr phase slot)) sz (p .clock)) q)
     → Good sz start (store wk l (setPlace tr phase slot)) p
-went-good {sz} {s} {r} {start} {st} {p} {wk} {l} y tr phase slot a b z e i =
+went-good {sz} {s} {r} {start} {st} {p} {wk} {l} y tr phase slot a b z x e i =
     let g = y .good in
     let o = g .opens in
     let same = z .opens in
@@ -177,6 +187,7 @@ went-good {sz} {s} {r} {start} {st} {p} {wk} {l} y tr phase slot a b z e i =
         quiet = λ u h q. absurd (y .quiet u h (sym (ap (λ x. x + 1) (same u h)) ∙ q));
       };
       past = g .past;
+      index = kept-indexed (place-index tr sz phase slot) x;
       inv = rw (phase-set v phase slot, slot-set v phase slot, e, z .uid, z .order) i;
       fifo = g .fifo;
     }

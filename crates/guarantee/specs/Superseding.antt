@@ -1,5 +1,5 @@
 -- A later version takes a free slot and the old one is retired: the two slots that change.
-use Prim.Native.Nat.{ℕ, _+_, _<_}
+use Prim.Native.Nat.{ℕ, _+_, _≤_, _<_}
 use mathlib.Core.Path.{_≡_, refl, sym, _∙_}
 use mathlib.Core.Bool.{true}
 use mathlib.Core.Logic.{_≢_}
@@ -12,29 +12,30 @@ use Rattle.search.specs.declared.Found.{Found}
 use Rattle.search.specs.declared.Found.the-variants.{At, Nothing}
 use Rattle.reply.specs.declared.Refusal.the-variants.{Full}
 use Rattle.image.specs.declared.header.Header.{Header}
-use Rattle.image.specs.Layout.{headerOf, header}
+use Rattle.image.specs.Layout.{isFilled, headerOf, header}
 use Rattle.image.specs.declared.name.Name.{Name}
-use Rattle.image.specs.Name.{names-meet, key-same}
+use Rattle.image.specs.Name.{nameOf, names-meet, key-same}
 use Rattle.transient.specs.declared.sizes.Sizes.{Sizes}
 use Rattle.transient.specs.Layout.{note, lastAt, nextUidAt, nextOrderAt, openEpoch, isWaiting, setRetired}
 use Rattle.transient.specs.Store.{Store, store, table}
 use Rattle.transient.specs.Requires.{Notes, notes-after}
-use Rattle.transient.specs.Laws.{HeadKept, head-then, retired-front, retired-same, retired-waiting, retired-aside}
+use Rattle.transient.specs.Laws.{HeadKept, head-then, retired-front, retired-same, retired-waiting, retired-aside, retired-index}
 use Rattle.table.specs.Find.{freeAt, room}
 use Rattle.table.specs.Fill.{filledSlot, taken}
 use Rattle.jobs.specs.Job.{superseded}
 use Rattle.crash.specs.Table.{Put2}
 use Rattle.crash.specs.Reference.{Jobs}
 use Rattle.crash.specs.Slots.{Value, Slot, State, Inv}
-use Rattle.crash.specs.Steps.{entry, filled, retiring, after, Successor, Current, Joins}
+use Rattle.crash.specs.Steps.{entry, filled, retiring, after, Successor, updates, removes, Current, Joins}
 use Rattle.crash.specs.Over.{over-inv}
 use Rattle.guarantee.specs.Trace.{Plain, plain}
 use Rattle.guarantee.specs.View.{entryOf, slotOf, view, view-in, view-put2}
 use Rattle.guarantee.specs.Good.{Good}
 use Rattle.guarantee.specs.Notes.{Joined, taken-joins}
 use Rattle.guarantee.specs.Images.{Wrote, wrote-image, filled-wrote}
-use Rattle.guarantee.specs.Frame.{operation-of, change-joins, good-change, Owes, fifo-after, row-epoch}
-use Rattle.guarantee.specs.Lookups.{Lives, room-says, free-says}
+use Rattle.guarantee.specs.Frame.{good-shaped, operation-of, change-joins, good-change, Owes, fifo-after, row-epoch}
+use Rattle.guarantee.specs.Indexing.{later-filled, kept-indexed, took}
+use Rattle.guarantee.specs.Lookups.{Lives, lives-called, room-says, free-says}
 use Rattle.guarantee.specs.Changing.{Fine, fine-refused}
 
 module _ {sz : Sizes} {start : Jobs} {st : Store} {p : Plain} (g : Good sz start st p)
@@ -106,6 +107,15 @@ over-as : {kind e s r : ℕ} {v : Value} {u : Option Value} {now before : ℕ} {
     → Inv (after st f (st .uid) (st .order) e k u)
 over-as i a b d o c j free older put = rw b (over-inv i record { outcome = o; of = c; joins = j; free = free; older = older; put = rw (a, d) at put })
 
+-- an UPDATE or a DELETE
+successor-lo : {kind : ℕ} {v : Value} {u : Option Value} → Successor kind v u → 1 ≤ kind
+successor-lo (updates v) = omega arith
+successor-lo (removes v) = omega arith
+
+successor-hi : {kind : ℕ} {v : Value} {u : Option Value} → Successor kind v u → kind ≤ 3
+successor-hi (updates v) = omega arith
+successor-hi (removes v) = omega arith
+
 -- ---- set by a new UPDATE, delete by a new DELETE
 module _ {sz : Sizes} {start : Jobs} {wk l tr : List ℕ} {p : Plain} {kind : ℕ} {v : Value} {u : Option Value} (thread : ℕ) (name : Name) (s : ℕ) (o : Successor kind v u)
     (g : Good sz start (store wk l tr) p) (within : thread < sz .t) (begun : openEpoch tr thread ≢ 0) (words : length v + 1 ≡ sz .w)
@@ -120,11 +130,15 @@ module _ {sz : Sizes} {start : Jobs} {wk l tr : List ℕ} {p : Plain} {kind : �
   at-slot = view-in (store wk l tr) sz (p .clock) s (lives .below)
 
   super-at : (f : ℕ) → f < sz .n → freeAt wk f ≡ true
-      → Good sz start (store (filledSlot sz wk f (headerOf kind e (header wk s .uid) (header wk s .board)) (name .key ∷ v)) l (setRetired sz (taken sz tr e f) s e))
+      → Good sz start (store (filledSlot sz wk f (headerOf kind e (header wk s .uid) (header wk s .board)) (name .key ∷ v)) l
+      (setRetired sz (taken sz tr e f (nameOf (header wk s .board) (name .key))) s e))
       (plain (p .clock) (p .operation) (p .row ++ (record { epoch = p .operation thread; name = name; value = u } ∷ [])) (p .ended) (p .durable))
   super-at f h free =
       let a = filled-wrote (g .working .sized) h (headerOf kind e (header wk s .uid) (header wk s .board)) (name .key ∷ v) (omega (arith, words)) in
-      let j = taken-joins (g .notes) e f h in
+      let j = taken-joins (g .notes) e f (nameOf (header wk s .board) (name .key)) h in
+      let op = operation-of g thread within begun in
+      let new : isFilled (headerOf kind e (header wk s .uid) (header wk s .board)) ≡ true =
+      later-filled (header wk s) (successor-lo o) (successor-hi o) (omega (arith, op .epoch-least)) (lives-called g lives .filled) in
       let empty = free-says g h free in
       let pay = lives .payload in
       let apart : f ≢ s = λ q. let z = rw q at empty in omega arith in
@@ -132,14 +146,16 @@ module _ {sz : Sizes} {start : Jobs} {wk l tr : List ℕ} {p : Plain} {kind : �
       let epoch-is : header wk s .epoch ≡ old .working .epoch = rw at-slot in
       let board-is : header wk s .board ≡ old .working .name .board = rw at-slot in
       good-change g (wrote-image a (g .working)) (over-head g a j h (lives .below) apart) (over-uid g a j h (lives .below) apart) (over-order g a j h (lives .below) apart)
+      (kept-indexed (retired-index (taken sz tr e f (nameOf (header wk s .board) (name .key))) sz s e (lives .below))
+      (took (good-shaped g) (g .index) e f (headerOf kind e (header wk s .uid) (header wk s .board)) (name .key) v h free new words))
       (row-epoch g thread name u within) (fifo-after g e name u owes)
-      (over-as (g .inv) uid-is (sym (lives .named)) (names-meet board-is (key-same (sym (lives .named)))) o (record { operation = operation-of g thread within begun; payload = lives .payload; current = lives .current })
+      (over-as (g .inv) uid-is (sym (lives .named)) (names-meet board-is (key-same (sym (lives .named)))) o (record { operation = op; payload = lives .payload; current = lives .current })
       (change-joins g a j h) empty (omega (arith, epoch-is, older)) (over-put g a j h (lives .below) apart))
 
   pub super-fine : (k : ℕ) → note lastAt tr < sz .n
-      → Fine sz start l p thread name u (superseded (room sz (table wk tr) k) sz (table wk tr) e s (headerOf kind e (header wk s .uid) (header wk s .board)) (name .key ∷ v))
+      → Fine sz start l p thread name u (superseded (room sz (table wk tr) k) sz (table wk tr) e s (headerOf kind e (header wk s .uid) (header wk s .board)) (name .key) v)
   super-fine k h = go (room sz (table wk tr) k) refl
     where
-      go : (f : Found) → room sz (table wk tr) k ≡ f → Fine sz start l p thread name u (superseded f sz (table wk tr) e s (headerOf kind e (header wk s .uid) (header wk s .board)) (name .key ∷ v))
+      go : (f : Found) → room sz (table wk tr) k ≡ f → Fine sz start l p thread name u (superseded f sz (table wk tr) e s (headerOf kind e (header wk s .uid) (header wk s .board)) (name .key) v)
       go (At f) q = let b = room-says sz (table wk tr) k f h q in record { good = super-at f (b .0) (b .1) }
       go Nothing q = fine-refused g Full

@@ -1,18 +1,20 @@
 -- The last step of an advance: the clock goes on in both images, and the waiting list of c − 1 is emptied.
-use Prim.Native.Nat.{ℕ, suc, _+_, _-_, _<_}
-use mathlib.Core.Path.{_≡_, _∙_}
+use Prim.Native.Nat.{_≤_, ℕ, suc, _+_, _-_, _<_}
+use mathlib.Core.Path.{_≡_, sym, ap, _∙_}
 use mathlib.Core.Bool.{false}
 use mathlib.Core.List.{List}
 use native.Mathlib.Omega.{arith}
 use native.Mathlib.Decide.{decLt}
+use Rattle.image.specs.Layout.{isFilled}
 use Rattle.image.specs.Line.{clockLine, storeLine}
 use Rattle.image.specs.Requires.{sized-after}
-use Rattle.image.specs.Laws.{length-store, clock-same, word-past-clock, header-past-clock, contents-past-clock}
+use Rattle.image.specs.Laws.{length-store, clock-same, word-past-clock, header-past-clock, contents-past-clock, name-contents}
 use Rattle.transient.specs.declared.sizes.Sizes.{Sizes}
 use Rattle.transient.specs.Layout.{note, nextUidAt, nextOrderAt, openEpoch, retiredIn, isWaiting, setPlace, emptied}
 use Rattle.transient.specs.Store.{Store, store}
 use Rattle.transient.specs.Requires.{Notes, notes-after}
-use Rattle.transient.specs.Laws.{SlotKept, waiting-again, place-long, place-opens, place-slots, place-uid, place-order, emptied-front, emptied-none, emptied-next, emptied-retired, phase-set, slot-set}
+use Rattle.index.specs.Indexed.{Indexed, indexed-same}
+use Rattle.transient.specs.Laws.{SlotKept, waiting-again, place-long, place-opens, place-slots, place-index, place-uid, place-order, index-then, emptied-front, emptied-index, emptied-none, emptied-next, emptied-retired, phase-set, slot-set}
 use Rattle.step.specs.Step.{Stepped, idle, ticking}
 use Rattle.advance.specs.Advance.{noted}
 use Rattle.advance.specs.Stages.{underway}
@@ -87,6 +89,17 @@ module _ {sz : Sizes} {start : Jobs} {st : Store} {p : Plain} (y : Ready sz star
   order-same : note nextOrderAt notes′ ≡ note nextOrderAt (st .transient)
   order-same = place-order list sz idle 0 ∙ emptied-front (st .transient) sz (c - 1) .order
 
+  -- no slot's name is in the clock, nor in the list
+  index-same : Indexed sz (storeLine (st .working) (clockLine (c + 1))) notes′
+  index-same =
+      let wk = st .working in
+      let wide : 1 ≤ sz .w = omega (arith, y .good .working .sized .sizes .width-lo) in
+      indexed-same (index-then (emptied-index (st .transient) sz (c - 1)) (place-index list sz idle 0))
+      (λ m h. ap isFilled (header-past-clock wk (c + 1) m))
+      (λ m h. name-contents (storeLine wk (clockLine (c + 1))) (sz .n) (sz .w) m wide
+      ∙ (rw (header-past-clock wk (c + 1) m, contents-past-clock wk (sz .n) (sz .w) m (c + 1)) (sym (name-contents wk (sz .n) (sz .w) m wide))))
+      (y .good .index)
+
   -- the table: the lists move on
   all : (s : ℕ) → view st′ sz (suc c) s ≡ ticked (view st sz c s)
   all s = elim (decLt s (sz .n)) [
@@ -137,6 +150,7 @@ module _ {sz : Sizes} {start : Jobs} {st : Store} {p : Plain} (y : Ready sz star
             quiet = λ u h q. rest v;
           };
           past = record { ended-hi = λ e m. omega (arith, g .past .ended-hi e m); durable-hi = λ e m. omega (arith, g .past .durable-hi e m) };
+          index = index-same;
           inv = rw (phase-set v idle 0, slot-set v idle 0, progress-idle (sz .n) 0, uid-same, order-same)
               (tick-inv i (record { swept = swept; flushed = flushed; all = all }));
           fifo = g .fifo;

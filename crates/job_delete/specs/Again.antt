@@ -16,7 +16,7 @@ use Rattle.transient.specs.Again.{TableKept, table-kept}
 use Rattle.table.specs.declared.find.Lookup.{Lookup}
 use Rattle.table.specs.declared.find.Lookup.the-variants.{Later, Live, Absent}
 use Rattle.table.specs.Find.{lookup}
-use Rattle.jobs.specs.Again.{waiting-kept, joined-kept, header-kept, super-kept}
+use Rattle.jobs.specs.Again.{waiting-kept, freed-kept, header-kept, super-kept}
 use Rattle.job_delete.specs.Delete.{deleteAt}
 use Rattle.job_delete.specs.Stages.{freedAt, turned, covered, delete-at-is, deleteLooked, deleteOpen}
 
@@ -30,10 +30,10 @@ module _ {wk tr : List ℕ} {z : Sizes} (y : Entered wk tr z) (e key : ℕ) wher
       ⊎-elim
       (λ (a : eqb (header wk s .epoch) e ≡ true).
       ⊎-elim
-      (λ (b : eqb (header wk s .kind) 1 ≡ true). rw (delete-at-is z (table wk tr) e s key, a, b) (header-kept y (joined-kept y e s) s _))
+      (λ (b : eqb (header wk s .kind) 1 ≡ true). rw (delete-at-is z (table wk tr) e s key, a, b) (header-kept y (freed-kept y e s _) s _))
       (λ (b : eqb (header wk s .kind) 1 ≡ false). rw (delete-at-is z (table wk tr) e s key, a, b) (header-kept y (waiting-kept y e s) s _))
       (cases (eqb (header wk s .kind) 1)))
-      (λ (a : eqb (header wk s .epoch) e ≡ false). rw (delete-at-is z (table wk tr) e s key, a) (super-kept y 1 e s _ _))
+      (λ (a : eqb (header wk s .epoch) e ≡ false). rw (delete-at-is z (table wk tr) e s key, a) (super-kept y 1 e s _ _ _))
       (cases (eqb (header wk s .epoch) e))
 
   looked-kept : (k : Lookup) → Kept (deleteLooked k z (table wk tr) e key)

@@ -1,7 +1,6 @@
 -- Delete of a job.
 use Prim.Native.Nat.{ℕ, _-_}
 use mathlib.Core.Bool.{cond}
-use mathlib.Core.List.{_∷_}
 use lib.ListN.{replicate}
 use lib.Dec.{eqb}
 use Rattle.reply.specs.declared.Check.{Check}
@@ -9,12 +8,13 @@ use Rattle.reply.specs.declared.Check.the-variants.{Accepted}
 use Rattle.reply.specs.declared.Refusal.the-variants.{NoJob}
 use Rattle.image.specs.Layout.{header, freeHeader, antiHeader}
 use Rattle.image.specs.Line.{headerLine, storeLine}
+use Rattle.image.specs.Name.{nameOf}
 use Rattle.transient.specs.declared.sizes.Sizes.{Sizes}
 use Rattle.transient.specs.Layout.{setWaiting}
 use Rattle.transient.specs.Store.{Store, Table, Outcome}
 use Rattle.transient.specs.Calls.{Changed, changed, refused}
 use Rattle.table.specs.Find.{room}
-use Rattle.table.specs.Fill.{joined}
+use Rattle.table.specs.Fill.{freed}
 use Rattle.jobs.specs.Job.{superseded}
 use Rattle.jobs.specs.Way.{onJob}
 
@@ -25,9 +25,9 @@ unfoldable pub deleteAt : Sizes → Table → ℕ → ℕ → ℕ → Changed
 deleteAt z tb e s key =
     cond (eqb (header (tb .working) s .epoch) e)
     (cond (eqb (header (tb .working) s .kind) 1)
-    (changed Accepted (storeLine (tb .working) (headerLine s freeHeader)) (joined z (tb .transient) e s))
+    (changed Accepted (storeLine (tb .working) (headerLine s freeHeader)) (freed z (tb .transient) e s (nameOf (header (tb .working) s .board) key)))
     (changed Accepted (storeLine (tb .working) (headerLine s (antiHeader e (header (tb .working) s)))) (setWaiting z (tb .transient) e s)))
-    (superseded (room z tb 1) z tb e s (antiHeader e (header (tb .working) s)) (key ∷ replicate (z .w - 1) 0))
+    (superseded (room z tb 1) z tb e s (antiHeader e (header (tb .working) s)) key (replicate (z .w - 1) 0))
 
 -- 10
 unfoldable pub deleteJob : Store → ℕ → ℕ → Outcome Check

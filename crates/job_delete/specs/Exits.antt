@@ -14,7 +14,8 @@ use Rattle.reply.specs.declared.Refusal.the-variants.{Newer, NoJob, Full}
 use Rattle.image.specs.declared.header.Header.{Header}
 use Rattle.image.specs.Layout.{header, freeHeader, antiHeader}
 use Rattle.image.specs.Line.{headerLine, storeLine}
-use Rattle.image.specs.Name.{jobName}
+use Rattle.image.specs.Name.{jobName, nameOf}
+use Rattle.image.specs.Requires.{boardAt}
 use Rattle.transient.specs.declared.sizes.Sizes.{Sizes}
 use Rattle.transient.specs.Layout.{setRetired, setWaiting}
 use Rattle.transient.specs.Store.{Table, store, table, sizesOf, outcome}
@@ -23,7 +24,7 @@ use Rattle.transient.specs.Calls.{Changed, changed, refused}
 use Rattle.transient.specs.Requires.{entered-shaped, entered-notes}
 use Rattle.transient.specs.Passed.{on-declined, on-passed, passing}
 use Rattle.table.specs.Find.{lookup, room}
-use Rattle.table.specs.Fill.{filledSlot, taken, joined}
+use Rattle.table.specs.Fill.{filledSlot, taken, freed}
 use Rattle.table.specs.declared.find.Lookup.{Lookup}
 use Rattle.table.specs.declared.find.Lookup.the-variants.{Later, Live, Absent}
 use Rattle.jobs.specs.declared.way.Way.{Way}
@@ -35,9 +36,10 @@ use Rattle.job_delete.specs.Delete.{deleteAt, deleteJob}
 use Rattle.job_delete.specs.Stages.{freedAt, turned, covered, delete-at-is, deleteOpen, deleteSized}
 
 module _ (z : Sizes) (tb : Table) (e s : ℕ) where
-  pub free-done : {h : Header} {wk tr : List ℕ} → h ≡ freeHeader → wk ≡ storeLine (tb .working) (headerLine s h) → tr ≡ joined z (tb .transient) e s → changed Accepted wk tr ≡ freedAt z tb e s
-  unfolding freedAt
-  free-done p q r = rw (q, p, r)
+  pub free-done : (key : ℕ) {b : ℕ} {h : Header} {wk tr : List ℕ} → b ≡ boardAt (tb .working) s → h ≡ freeHeader → wk ≡ storeLine (tb .working) (headerLine s h)
+      → tr ≡ freed z (tb .transient) e s (nameOf b key) → changed Accepted wk tr ≡ freedAt z tb e s key
+  unfolding freedAt header
+  free-done key o p q r = rw (q, p, r, o)
 
   pub turn-done : {g h : Header} {wk tr : List ℕ} → g ≡ header (tb .working) s → h ≡ antiHeader e g → wk ≡ storeLine (tb .working) (headerLine s h)
       → tr ≡ setWaiting z (tb .transient) e s → changed Accepted wk tr ≡ turned z tb e s
@@ -52,12 +54,12 @@ module _ (z : Sizes) (tb : Table) (e s : ℕ) where
       cover-full a = rw (← fr, a)
 
       pub cover-done : {i : ℕ} {g h : Header} {wk tr : List ℕ} → f ≡ At i → g ≡ header (tb .working) s → h ≡ antiHeader e g
-          → wk ≡ filledSlot z (tb .working) i h (key ∷ replicate (z .w - 1) 0) → tr ≡ setRetired z (taken z (tb .transient) e i) s e → changed Accepted wk tr ≡ covered z tb e s key
+          → wk ≡ filledSlot z (tb .working) i h (key ∷ replicate (z .w - 1) 0) → tr ≡ setRetired z (taken z (tb .transient) e i (nameOf (h .board) key)) s e → changed Accepted wk tr ≡ covered z tb e s key
       unfolding covered
       cover-done a at hd p q = rw (← fr, a, p, q, hd, at)
 
     module _ {g : Header} {x : Changed} (at : g ≡ header (tb .working) s) where
-      pub delete-free : g .epoch ≡ e → g .kind ≡ 1 → x ≡ freedAt z tb e s → x ≡ deleteAt z tb e s key
+      pub delete-free : g .epoch ≡ e → g .kind ≡ 1 → x ≡ freedAt z tb e s key → x ≡ deleteAt z tb e s key
       delete-free d k p = rw (delete-at-is z tb e s key, ← at, eq-eqb (g .epoch) e d, eq-eqb (g .kind) 1 k) p
 
       pub delete-turn : g .epoch ≡ e → (g .kind ≡ 1 → ⊥) → x ≡ turned z tb e s → x ≡ deleteAt z tb e s key

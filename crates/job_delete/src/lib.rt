@@ -1,5 +1,6 @@
 // Delete: a job ends, at once or behind an anti-payload.
 use image::header::Header;
+use image::name::Name;
 use jobs::way::Way;
 use reply::Check;
 use reply::Refusal;
@@ -15,12 +16,20 @@ ghost use Rattle.job_delete.specs.Delete.{deleteAt, deleteJob};
 ghost use Rattle.job_delete.specs.Stages.{freedAt, turned, covered, deleteOpen, deleteSized};
 
 // An ALLOC of this epoch: no other epoch knows it, so its slot is free at once.
-fn free_now(working: &mut [u32], transient: &mut [u32], z: Sizes, e: u32, s: usize) -> Check
+fn free_now(
+    working: &mut [u32],
+    transient: &mut [u32],
+    z: Sizes,
+    e: u32,
+    s: usize,
+    key: u32,
+) -> Check
     requires { ⌜ Reached (now working) (now transient) z s ⌝ }
-    ensures { λ r. ⌜ changed r (now (working .exit)) (now (transient .exit)) ≡ freedAt z (table (now (working .entry)) (now (transient .entry))) e s ⌝ }
+    ensures { λ r. ⌜ changed r (now (working .exit)) (now (transient .exit)) ≡ freedAt z (table (now (working .entry)) (now (transient .entry))) e s key ⌝ }
 {
+    let board = image::header::board_at(working, z.n, s);
     image::header::set_header(working, z.n, s, Header::free());
-    table::fill::note_freed(transient, z, e, s);
+    table::fill::note_freed(transient, z, e, s, Name { board, key });
     Check::Accepted
 }
 
@@ -44,7 +53,11 @@ fn cover(working: &mut [u32], transient: &mut [u32], z: Sizes, e: u32, s: usize,
         Found::At(f) => {
             let h = Header::anti(e, image::header::header_at(working, z.n, s));
             table::fill::fill_zeros(working, z, f, h, key);
-            jobs::supersede::note_superseded(transient, z, e, s, f);
+            let name = Name {
+                board: h.board,
+                key,
+            };
+            jobs::supersede::note_superseded(transient, z, e, s, f, name);
             Check::Accepted
         }
         Found::Nothing => Check::Refused(Refusal::Full),
@@ -65,7 +78,7 @@ pub fn delete_at(
     let h = image::header::header_at(working, z.n, s);
     if h.epoch == e {
         if h.kind == Header::ALLOC {
-            return free_now(working, transient, z, e, s);
+            return free_now(working, transient, z, e, s, key);
         }
         return turn(working, transient, z, e, s);
     }

@@ -29,7 +29,12 @@ fn new_at(
     requires { ⌜ Placed (now working) (now transient) z s (now value) ⌝ }
     ensures { λ r. ⌜ changed r (now (working .exit)) (now (transient .exit)) ≡ newAt z (table (now (working .entry)) (now (transient .entry))) e s (job key (now (value .entry))) ⌝ }
 {
-    jobs::make::make_at(working, transient, z, e, s, Name::job(key), value);
+    let anew = Sizes {
+        n: z.n,
+        w: z.w,
+        t: z.t,
+    };
+    jobs::make::make_at(working, transient, anew, e, s, Name::job(key), value);
     Check::Accepted
 }
 
@@ -80,7 +85,13 @@ pub fn new_open(
     ensures { λ r. ⌜ changed r (now (working .exit)) (now (transient .exit)) ≡ newOpen z (table (now (working .entry)) (now (transient .entry))) (job key (now (value .entry))) e ⌝ }
 {
     let value = &value[..];
-    match table::find::look_up(working, transient, z, key, e) {
+    // Sizes made anew are loaded one by one; handed on, two at once, and that waits for the stores before.
+    let anew = Sizes {
+        n: z.n,
+        w: z.w,
+        t: z.t,
+    };
+    match table::find::look_up(working, transient, anew, key, e) {
         Lookup::Later => Check::Refused(Refusal::Newer),
         Lookup::Live(_) => Check::Refused(Refusal::JobExists),
         Lookup::Absent => new_absent(working, transient, z, e, key, value),

@@ -60,6 +60,10 @@ pub fn read_slot(
 ) -> Reading
     ensures { λ r. ⌜ r ≡ readJob (store (now (working .entry)) (now (persistent .entry)) (now (transient .entry))) thread key ⌝ }
 {
+    // Lent anew, the slices come in registers.
+    let working = &working[..];
+    let persistent = &persistent[..];
+    let transient = &transient[..];
     match transient::entry::check(working, persistent, transient) {
         Check::Refused(r) => Reading::Declined(r),
         Check::Accepted => {

@@ -30,7 +30,7 @@ module _ {wk tr : List ℕ} {z : Sizes} (y : Entered wk tr z) (e : ℕ) (j : Job
   at-kept s =
       ⊎-elim
       (λ (a : eqb (header wk s .epoch) e ≡ true). rw (set-at-is z (table wk tr) e s j, a) (value-kept y (waiting-kept y e s) s (j .value)))
-      (λ (a : eqb (header wk s .epoch) e ≡ false). rw (set-at-is z (table wk tr) e s j, a) (super-kept y 2 e s _ _))
+      (λ (a : eqb (header wk s .epoch) e ≡ false). rw (set-at-is z (table wk tr) e s j, a) (super-kept y 2 e s _ _ _))
       (cases (eqb (header wk s .epoch) e))
 
   looked-kept : (k : Lookup) → Kept (setLooked k z (table wk tr) e j)

@@ -12,7 +12,7 @@ use Rattle.reply.specs.declared.Refusal.{Refusal}
 use Rattle.reply.specs.declared.Refusal.the-variants.{Newer, NoJob, Full}
 use Rattle.image.specs.declared.header.Header.{Header}
 use Rattle.image.specs.Layout.{header, updatedHeader}
-use Rattle.image.specs.Name.{jobName}
+use Rattle.image.specs.Name.{jobName, nameOf}
 use Rattle.transient.specs.declared.sizes.Sizes.{Sizes}
 use Rattle.transient.specs.Layout.{setRetired, setWaiting}
 use Rattle.transient.specs.Store.{Table, store, table, sizesOf, outcome}
@@ -53,7 +53,7 @@ module _ (z : Sizes) (tb : Table) (e s : ℕ) (j : Job) {f : Found} (fr : f ≡ 
   update-full a = rw (← fr, a)
 
   pub update-done : {i : ℕ} {g h : Header} {wk tr : List ℕ} → f ≡ At i → g ≡ header (tb .working) s → h ≡ updatedHeader e g → wk ≡ filledSlot z (tb .working) i h (j .key ∷ j .value)
-      → tr ≡ setRetired z (taken z (tb .transient) e i) s e → changed Accepted wk tr ≡ updated z tb e s j
+      → tr ≡ setRetired z (taken z (tb .transient) e i (nameOf (h .board) (j .key))) s e → changed Accepted wk tr ≡ updated z tb e s j
   unfolding updated
   update-done a at hd p q = rw (← fr, a, p, q, hd, at)
 

@@ -2,7 +2,6 @@
 -- same uid and key) and retires the old one in e."
 use Prim.Native.Nat.{ℕ, _+_}
 use mathlib.Core.Bool.{cond}
-use mathlib.Core.List.{_∷_}
 use lib.Dec.{eqb}
 use Rattle.reply.specs.declared.Check.{Check}
 use Rattle.reply.specs.declared.Check.the-variants.{Accepted}
@@ -22,7 +21,7 @@ unfoldable pub setAt : Sizes → Table → ℕ → ℕ → Job → Changed
 setAt z tb e s j =
     cond (eqb (header (tb .working) s .epoch) e)
     (changed Accepted (storeLine (tb .working) (record { at = contentsAt (z .n) (z .w) s + 1; words = j .value })) (setWaiting z (tb .transient) e s))
-    (superseded (room z tb 2) z tb e s (updatedHeader e (header (tb .working) s)) (j .key ∷ j .value))
+    (superseded (room z tb 2) z tb e s (updatedHeader e (header (tb .working) s)) (j .key) (j .value))
 
 -- 10: "no live job of that key"
 unfoldable pub setJob : Store → ℕ → Job → Outcome Check

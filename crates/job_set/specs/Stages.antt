@@ -2,7 +2,7 @@
 use Prim.Native.Nat.{ℕ}
 use mathlib.Core.Path.{_≡_, refl}
 use mathlib.Core.Bool.{cond}
-use mathlib.Core.List.{List, _∷_}
+use mathlib.Core.List.{List}
 use lib.Dec.{eqb}
 use Rattle.reply.specs.declared.Check.the-variants.{Accepted}
 use Rattle.reply.specs.declared.Refusal.the-variants.{Newer, NoJob}
@@ -25,7 +25,7 @@ rewritten z tb e s value = changed Accepted (setValue z (tb .working) s value) (
 
 -- by a new version
 unfoldable pub updated : Sizes → Table → ℕ → ℕ → Job → Changed
-updated z tb e s j = superseded (room z tb 2) z tb e s (updatedHeader e (header (tb .working) s)) (j .key ∷ j .value)
+updated z tb e s j = superseded (room z tb 2) z tb e s (updatedHeader e (header (tb .working) s)) (j .key) (j .value)
 
 pub set-at-is : (z : Sizes) (tb : Table) (e s : ℕ) (j : Job)
     → setAt z tb e s j ≡ cond (eqb (header (tb .working) s .epoch) e) (rewritten z tb e s (j .value)) (updated z tb e s j)

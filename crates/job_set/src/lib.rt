@@ -1,5 +1,6 @@
 // Set: another value for a live job.
 use image::header::Header;
+use image::name::Name;
 use jobs::way::Way;
 use reply::Check;
 use reply::Refusal;
@@ -48,7 +49,11 @@ fn update(
         Found::At(f) => {
             let h = Header::updated(e, image::header::header_at(working, z.n, s));
             table::fill::fill(working, z, f, h, key, value);
-            jobs::supersede::note_superseded(transient, z, e, s, f);
+            let name = Name {
+                board: h.board,
+                key,
+            };
+            jobs::supersede::note_superseded(transient, z, e, s, f, name);
             Check::Accepted
         }
         Found::Nothing => Check::Refused(Refusal::Full),
@@ -87,7 +92,13 @@ pub fn set_open(
     ensures { λ r. ⌜ changed r (now (working .exit)) (now (transient .exit)) ≡ setOpened z (table (now (working .entry)) (now (transient .entry))) (job key (now (value .entry))) e ⌝ }
 {
     let value = &value[..];
-    match table::find::look_up(working, transient, z, key, e) {
+    // Sizes made anew are loaded one by one; handed on, two at once, and that waits for the stores before.
+    let anew = Sizes {
+        n: z.n,
+        w: z.w,
+        t: z.t,
+    };
+    match table::find::look_up(working, transient, anew, key, e) {
         Lookup::Later => Check::Refused(Refusal::Newer),
         Lookup::Live(s) => set_at(working, transient, z, e, s, key, value),
         Lookup::Absent => Check::Refused(Refusal::NoJob),

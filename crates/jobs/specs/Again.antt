@@ -13,12 +13,13 @@ use Rattle.image.specs.Laws.{front-past-header, front-past-contents}
 use Rattle.image.specs.Alike.{header-alike, contents-alike}
 use Rattle.transient.specs.declared.sizes.Sizes.{Sizes}
 use Rattle.transient.specs.Layout.{note, nextUidAt, setRetired, setWaiting}
-use Rattle.transient.specs.Laws.{retired-front, waiting-front}
+use Rattle.transient.specs.Laws.{retired-front, waiting-front, beside-front}
 use Rattle.transient.specs.Store.{table}
 use Rattle.transient.specs.Requires.{Entered}
 use Rattle.transient.specs.Again.{NotesKept, TableKept, kept-front, kept-last, kept-uid, notes-kept, table-kept}
 use Rattle.table.specs.Find.{room}
-use Rattle.table.specs.Fill.{filledSlot, joined, taken}
+use Rattle.index.specs.Laws.{inserted-only, removed-only}
+use Rattle.table.specs.Fill.{filledSlot, joined, taken, freed}
 use Rattle.table.specs.Requires.{setValue}
 use Rattle.table.specs.Laws.{length-filled, front-filled, value-is-contents, room-below}
 use Rattle.jobs.specs.Job.{made, superseded}
@@ -28,14 +29,19 @@ module _ {wk tr : List ℕ} {z : Sizes} (y : Entered wk tr z) where
   pub waiting-kept : (e s : ℕ) → NotesKept z tr (setWaiting z tr e s)
   waiting-kept e s = kept-front (notes-kept y) (waiting-front tr z e s)
 
-  pub joined-kept : (e s : ℕ) → NotesKept z tr (joined z tr e s)
+  joined-kept : (e s : ℕ) → NotesKept z tr (joined z tr e s)
   unfolding joined
   joined-kept e s = kept-front (kept-front (notes-kept y) (retired-front tr z s 0)) (waiting-front (setRetired z tr s 0) z e s)
 
-  taken-kept : (e s : ℕ) → s < z .n → NotesKept z tr (taken z tr e s)
+  pub freed-kept : (e s : ℕ) (name : Name) → NotesKept z tr (freed z tr e s name)
+  unfolding freed
+  freed-kept e s name = kept-front (joined-kept e s) (beside-front (removed-only z _ name s))
+
+  taken-kept : (e s : ℕ) (name : Name) → s < z .n → NotesKept z tr (taken z tr e s name)
   unfolding taken joined
-  taken-kept e s h =
-      kept-front (kept-front (kept-last (notes-kept y) (y .shaped .notes) s h) (retired-front _ z s 0)) (waiting-front _ z e s)
+  taken-kept e s name h =
+      kept-front (kept-front (kept-front (kept-last (notes-kept y) (y .shaped .notes) s h) (retired-front _ z s 0)) (waiting-front _ z e s))
+      (beside-front (inserted-only z _ name s))
 
   -- ---- the table
   module _ {tr′ : List ℕ} (k : NotesKept z tr tr′) (s : ℕ) where
@@ -62,11 +68,12 @@ module _ {wk tr : List ℕ} {z : Sizes} (y : Entered wk tr z) where
       → TableKept z (table wk tr) (made z (table wk tr) e s name value)
   unfolding made
   made-kept e s name value h top =
-      filled-kept (kept-uid (taken-kept e s h) (y .shaped .notes) (note nextUidAt tr + 1) (omega arith) (omega arith)) s _ _
+      filled-kept (kept-uid (taken-kept e s name h) (y .shaped .notes) (note nextUidAt tr + 1) (omega arith) (omega arith)) s _ _
 
-  pub super-kept : (k e s : ℕ) (h : Header) (words : List ℕ) → TableKept z (table wk tr) (superseded (room z (table wk tr) k) z (table wk tr) e s h words .table)
-  super-kept k e s h words = go (room z (table wk tr) k) refl
+  pub super-kept : (k e s : ℕ) (h : Header) (key : ℕ) (value : List ℕ)
+      → TableKept z (table wk tr) (superseded (room z (table wk tr) k) z (table wk tr) e s h key value .table)
+  super-kept k e s h key value = go (room z (table wk tr) k) refl
     where
-      go : (g : Found) → room z (table wk tr) k ≡ g → TableKept z (table wk tr) (superseded g z (table wk tr) e s h words .table)
-      go (At f) q = filled-kept (kept-front (taken-kept e f (room-below z (table wk tr) k f (y .last) q)) (retired-front _ z s e)) f h words
+      go : (g : Found) → room z (table wk tr) k ≡ g → TableKept z (table wk tr) (superseded g z (table wk tr) e s h key value .table)
+      go (At f) q = filled-kept (kept-front (taken-kept e f _ (room-below z (table wk tr) k f (y .last) q)) (retired-front _ z s e)) f h (key ∷ value)
       go Nothing q = table-kept y

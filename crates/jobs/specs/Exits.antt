@@ -51,12 +51,12 @@ module _ (z : Sizes) (key : ℕ) (value : List ℕ) where
 -- ---- a first version
 pub made-done : (z : Sizes) (tb : Table) (e s : ℕ) (name : Name) (value : List ℕ) {u : ℕ} {h : Header} {wk a b : List ℕ}
     → u ≡ note nextUidAt (tb .transient) → h ≡ freshHeader e u (name .board) → wk ≡ filledSlot z (tb .working) s h (name .key ∷ value)
-    → a ≡ taken z (tb .transient) e s → b ≡ setNote nextUidAt a (u + 1) → table wk b ≡ made z tb e s name value
+    → a ≡ taken z (tb .transient) e s name → b ≡ setNote nextUidAt a (u + 1) → table wk b ≡ made z tb e s name value
 unfolding made
 made-done z tb e s name value p q r x y = rw (r, q, y, x, p)
 
 -- ---- superseding
-pub noted : (z : Sizes) (tr : List ℕ) (e s f : ℕ) {a b : List ℕ} → a ≡ taken z tr e f → b ≡ setRetired z a s e → b ≡ setRetired z (taken z tr e f) s e
-noted z tr e s f p q = rw (← p) q
+pub noted : (z : Sizes) (tr : List ℕ) (e s f : ℕ) (name : Name) {a b : List ℕ} → a ≡ taken z tr e f name → b ≡ setRetired z a s e → b ≡ setRetired z (taken z tr e f name) s e
+noted z tr e s f name p q = rw (← p) q
 
 pub ruleset laws = (thread-of, note-after, way-thread, way-none, way-bad, way-fine, job-nameless, job-long, super-to, super-from, noted, placing, made-done)

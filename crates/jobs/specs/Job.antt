@@ -11,6 +11,7 @@ use Rattle.reply.specs.declared.Refusal.the-variants.{Full}
 use Rattle.image.specs.declared.header.Header.{Header}
 use Rattle.image.specs.Layout.{freshHeader}
 use Rattle.image.specs.declared.name.Name.{Name}
+use Rattle.image.specs.Name.{nameOf}
 use Rattle.transient.specs.declared.sizes.Sizes.{Sizes}
 use Rattle.transient.specs.Layout.{note, nextUidAt, setNote, setRetired}
 use Rattle.transient.specs.Store.{Table, table}
@@ -33,9 +34,10 @@ badJob z j = eqb (j .key) 0 || not (eqb (length (j .value)) (z .w - 1))
 unfoldable pub made : Sizes → Table → ℕ → ℕ → Name → List ℕ → Table
 made z tb e s name value =
     table (filledSlot z (tb .working) s (freshHeader e (note nextUidAt (tb .transient)) (name .board)) (name .key ∷ value))
-    (setNote nextUidAt (taken z (tb .transient) e s) (note nextUidAt (tb .transient) + 1))
+    (setNote nextUidAt (taken z (tb .transient) e s name) (note nextUidAt (tb .transient) + 1))
 
 -- 13 where no slot is found; else the slot f is filled, and the old one "retires .. in e"
-abbrev pub superseded : Found → Sizes → Table → ℕ → ℕ → Header → List ℕ → Changed
-superseded found z tb e s h words =
-    whereFound found (λ f. changed Accepted (filledSlot z (tb .working) f h words) (setRetired z (taken z (tb .transient) e f) s e)) (refused Full tb)
+abbrev pub superseded : Found → Sizes → Table → ℕ → ℕ → Header → ℕ → List ℕ → Changed
+superseded found z tb e s h key value =
+    whereFound found (λ f. changed Accepted (filledSlot z (tb .working) f h (key ∷ value)) (setRetired z (taken z (tb .transient) e f (nameOf (h .board) key)) s e))
+    (refused Full tb)

@@ -45,9 +45,9 @@ pub way-keeps : (tb : Table) (k : Way) (next : ℕ → Changed) → ((e : ℕ) �
 way-keeps tb (Open e) next x = x e
 way-keeps tb (Declined r) next x = refused-keeps tb r
 
-pub super-keeps : (g : Found) (z : Sizes) (tb : Table) (e s : ℕ) (h : Header) (words : List ℕ) → KeepsInside tb (superseded g z tb e s h words)
-super-keeps (At f) z tb e s h words = accepted-keeps tb _ _
-super-keeps Nothing z tb e s h words = refused-keeps tb Full
+pub super-keeps : (g : Found) (z : Sizes) (tb : Table) (e s : ℕ) (h : Header) (key : ℕ) (value : List ℕ) → KeepsInside tb (superseded g z tb e s h key value)
+super-keeps (At f) z tb e s h key value = accepted-keeps tb _ _
+super-keeps Nothing z tb e s h key value = refused-keeps tb Full
 
 pub ruleset shapes = (accepted-keeps, refused-keeps, either-keeps, way-keeps, super-keeps)
 

@@ -23,6 +23,6 @@ pub fn make_at(
     let uid = transient::notes::next_uid(transient);
     let h = Header::fresh(e, uid, name.board);
     table::fill::fill(working, z, s, h, name.key, value);
-    table::fill::note_taken(transient, z, e, s);
+    table::fill::note_taken(transient, z, e, s, name);
     transient::notes::set_next_uid(transient, uid + 1);
 }

@@ -6,10 +6,11 @@ use mathlib.Core.Bool.{true}
 use mathlib.Core.Logic.{_⊎_, inl, inr, ⊎-elim}
 use mathlib.Core.List.{List}
 use lib.ListN.{length}
+use lib.Dec.{eqb}
 use borrow.Author.Tests.{not-true}
 use native.Mathlib.Omega.{arith}
 use native.Mathlib.Decide.{ℕ-discrete}
-use Rattle.search.specs.Bools.{never, refuted, not-is-true}
+use Rattle.search.specs.Bools.{never, refuted, not-is-true, and-right}
 use Rattle.search.specs.First.{found-cases}
 use Rattle.search.specs.Count.{count, count-top, count-mono}
 use Rattle.search.specs.declared.Found.{Found}
@@ -24,24 +25,28 @@ use Rattle.image.specs.Requires.{header-fits}
 use Rattle.image.specs.Laws.{header-other}
 use Rattle.image.specs.Whole.{free-zero, blank-says}
 use Rattle.image.specs.Torn.{Mixed, torn-same, Remains, torn-freed}
-use Rattle.transient.specs.Store.{Store, store, Outcome, afterCheck}
+use Rattle.transient.specs.Layout.{threadsOk}
+use Rattle.transient.specs.Store.{Store, store, table, tableOf, sizesOf, Outcome, afterCheck}
+use Rattle.index.specs.Indexed.{Indexed}
 use Rattle.survival.specs.Survivors.{survivor}
 use Rattle.acceptance.specs.Accept.{imageCheck}
 use Rattle.acceptance.specs.Sound.{accepted-says}
-use Rattle.recovery.specs.Recover.{nextFreed, lengthsFit, recoverCheck, freeing, recover}
+use Rattle.recovery.specs.Recover.{nextFreed, lengthsFit, recoverCheck, recoveredNotes, freeing, recover}
 use Rattle.recovery.specs.Recovering.{AnyWords, call, left, Completes, Reached, at-first, went-on, was-cut}
 use Rattle.recovery.specs.Requires.{finished}
+use Rattle.recovery.specs.Notes.{recovered-long, recovered-indexed}
 use Rattle.recovery.specs.Steps.{SameSurvivors, nonzeroAt, next-spent, free-keeps, free-accepted, step-lowers, done-survivors}
 use Rattle.recovery.specs.declared.Recovery.{Recovery}
 use Rattle.recovery.specs.declared.Recovery.the-variants.{WentOn, Done, Declined}
 
 -- what the call that replies "done" leaves: in lasting the survivors of l and zeros in all other headers, in working a copy, the notes
--- (of `words` words) set
+-- (of `words` words) set, their index for working
 pub record Rebuilt (l : List ℕ) (words : ℕ) (st : Store) : Type 0 where
   pub same : SameSurvivors l (st .persistent)
   pub accepted : imageCheck (st .persistent) ≡ Accepted
   pub just : (s : ℕ) → s < slotsOf l → nonzeroAt (st .persistent) s ≡ survivor l (slotsOf l) s
   pub rest : st ≡ finished (st .persistent) words (slotsOf l) (widthOf l)
+  pub indexed : Indexed (sizesOf (tableOf st)) (st .working) (st .transient)
 
 -- ---- survivors that stay the same from image to image
 same-refl : (l : List ℕ) → SameSurvivors l l
@@ -170,11 +175,24 @@ no-further o f =
     let few = rw (o .same .slots) at (f .few) in
     record { same = same-trans (o .same) (f .same); ok = f .ok; few = omega (arith, o .few) }
 
-arrived : {l a : List ℕ} {k : ℕ} (words : ℕ) → OnTheWay l k a → nextFreed a (slotsOf a) ≡ Nothing → Rebuilt l words (finished a words (slotsOf a) (widthOf a))
+-- the index by the sizes that the next call reads
+finished-indexed : (a : List ℕ) (words : ℕ) → imageCheck a ≡ Accepted → threadsOk words (slotsOf a) ≡ true
+    → Indexed (sizesOf (table a (recoveredNotes a words (slotsOf a) (widthOf a)))) a (recoveredNotes a words (slotsOf a) (widthOf a))
+unfolding sizesOf
+finished-indexed a words ok fit =
+    let n = slotsOf a in
+    rw (recovered-long a words n (widthOf a)) (recovered-indexed a words n (widthOf a) fit (accepted-says a ok .sized .sizes .slots-hi))
+
+arrived : {l a : List ℕ} {k : ℕ} (words : ℕ) → threadsOk words (slotsOf a) ≡ true → OnTheWay l k a → nextFreed a (slotsOf a) ≡ Nothing
+    → Rebuilt l words (finished a words (slotsOf a) (widthOf a))
 unfolding finished
-arrived {l} {a} words o none =
+arrived {l} {a} words fit o none =
     let just : (s : ℕ) → s < slotsOf l → survivor a (slotsOf l) s ≡ nonzeroAt a s = rw (o .same .slots) at (done-survivors a none) in
-    record { same = o .same; accepted = o .ok; just = λ s h. sym (just s h) ∙ o .same .survivors s h; rest = rw (o .same .slots, o .same .width) }
+    record { same = o .same; accepted = o .ok; just = λ s h. sym (just s h) ∙ o .same .survivors s h; rest = rw (o .same .slots, o .same .width); indexed = finished-indexed a words (o .ok) fit }
+
+any-threads : {a : List ℕ} (any : AnyWords a) → threadsOk (length (any .transient)) (slotsOf a) ≡ true
+unfolding lengthsFit
+any-threads {a} any = and-right (eqb (length (any .working)) (length a)) _ (any .fit)
 
 -- a reply that is not this one
 other-reply : {A : Type 0} → _≡_ {A = Recovery} Done WentOn → A
@@ -232,7 +250,7 @@ module _ {l a : List ℕ} {k : ℕ} (ok : imageCheck l ≡ Accepted) (r : Reache
   pub recovery-rebuilds : (any : AnyWords a) → call a any .reply ≡ Done → Rebuilt l (length (any .transient)) (call a any .store)
   recovery-rebuilds any e = elim (call-cases a (way l ok r .ok) any) [
     | goes s next g is ↦ other-reply (sym e ∙ g)
-    | ends next d q is ↦ rw is (arrived (length (any .transient)) (way l ok r) next)
+    | ends next d q is ↦ rw is (arrived (length (any .transient)) (any-threads any) (way l ok r) next)
   ]
 
 -- ---- a refused recover call leaves the store as it was

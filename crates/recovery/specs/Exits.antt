@@ -27,11 +27,13 @@ use Rattle.image.specs.Line.{headerLine, stored, storeLine}
 use Rattle.image.specs.declared.name.Name.{Name}
 use Rattle.image.specs.Name.{nameAt, misnamed, name-is, misnamed-false}
 use Rattle.image.specs.Whole.{payload-filled}
-use Rattle.image.specs.Requires.{HeaderFits, Sized, Slot}
-use Rattle.image.specs.Laws.{shaped, stored-whole}
+use Rattle.image.specs.Requires.{HeaderFits, Sized, Slot, sized-after}
+use Rattle.image.specs.Laws.{shaped, length-stored, stored-whole}
 use Rattle.transient.specs.Layout.{threadsOf, threadsOk, blank}
 use Rattle.transient.specs.Store.{store, Outcome, outcome}
-use Rattle.transient.specs.Requires.{Blanking}
+use Rattle.transient.specs.Requires.{ThreadRoom, Blanking, Shaped, notes-after}
+use Rattle.transient.specs.Laws.{threads-head, blank-length}
+use Rattle.index.specs.Index.{rebuilt}
 use Rattle.survival.specs.Survivors.{kept, survivor, survivesOn}
 use Rattle.survival.specs.Requires.{keptAnti, Marked, SlotMarked, FlagAt, headers-of, sized-marked, all-marked, header-in, header-of, slot-marked, flag-at, flag-header, flag-of, marks}
 use Rattle.survival.specs.Laws.{flag-is}
@@ -42,8 +44,9 @@ use Rattle.acceptance.specs.Sound.{Sound, sound, filled-proper}
 use Rattle.recovery.specs.declared.Numbers.{Numbers}
 use Rattle.recovery.specs.declared.Recovery.{Recovery}
 use Rattle.recovery.specs.declared.Recovery.the-variants.{WentOn, Done, Declined}
-use Rattle.recovery.specs.Recover.{antiAt, stale, nextFreed, nextUid, nextOrder, lengthsFit, recoverCheck, freeing, recover}
-use Rattle.recovery.specs.Requires.{uidOf, recoverEntryCheck, antiUpTo, finished, numbers, numbersOf, Numbered, Finishing, Judged, recoverSized}
+use Rattle.recovery.specs.Recover.{antiAt, stale, nextFreed, nextUid, nextOrder, lengthsFit, recoverCheck, recoveredNotes, freeing, recover}
+use Rattle.recovery.specs.Requires.{uidOf, recoverEntryCheck, antiUpTo, finished, numbers, numbersOf, notesOver, Numbered, Noting, Finishing, Judged, recoverSized}
+use Rattle.recovery.specs.Notes.{threads-some, threads-notes}
 
 -- ---- what is freed next
 pub anti-is : (l : List ℕ) (s : ℕ) {c : ℕ} {r : Bool} → c ≡ clockOf l → r ≡ keptAnti c (header l s) → r ≡ antiAt l s
@@ -231,18 +234,42 @@ finish-marked z = all-marked (z .numbers .marked)
 pub finish-header : (wk l t : List ℕ) (flags : List Bool) {n w s : ℕ} {f : Found} → Finishing wk l t flags n w → f ≡ nextFreed l n → f ≡ At s → HeaderFits l n s
 finish-header wk l t flags {n} {w} {s} z e a = header-in (headers-of (z .numbers .marked .sized)) (freed-below l n s (sym e ∙ a))
 
-pub finish-slots : {wk l t : List ℕ} {flags : List Bool} {n w : ℕ} → Finishing wk l t flags n w → n < 2 ^ 32
-finish-slots z = omega (arith, z .numbers .marked .sized .sizes .slots-hi)
+-- working becomes a copy: as long as it was
+pub finish-long : {wk l t : List ℕ} {flags : List Bool} {n w : ℕ} {wk′ : List ℕ} → Finishing wk l t flags n w → wk′ ≡ stored wk 0 l (length l) → length wk′ ≡ length l
+finish-long {wk} {l} z k = rw k (length-stored wk 0 l (length l)) ∙ z .same
 
-pub finish-blank : {wk l t : List ℕ} {flags : List Bool} {n w m : ℕ} → Finishing wk l t flags n w → m ≡ n → Blanking t m
-finish-blank z e = record { some = omega (arith, z .some); room = z .notes }
+pub finish-noting : {wk l t : List ℕ} {flags : List Bool} {n w : ℕ} {wk′ : List ℕ} → Finishing wk l t flags n w → length wk′ ≡ length l → Noting wk′ t n w
+finish-noting z e = record { sized = sized-after e (z .numbers .marked .sized); notes = z .notes }
 
-pub finish-done : (wk l t : List ℕ) (n w : ℕ) {r : Numbers} {m : ℕ} {wk′ t′ : List ℕ} → length wk ≡ length l → r ≡ numbersOf l n w
-    → wk′ ≡ stored wk 0 l (length l) → m ≡ n → t′ ≡ blank (length t) m (r .uid) (r .order) → store wk′ l t′ ≡ finished l (length t) n w
-unfolding finished
-finish-done wk l t n w long e k m b =
+pub finish-done : (wk l t : List ℕ) (n w : ℕ) {r : Numbers} {wk′ t′ : List ℕ} → length wk ≡ length l → r ≡ numbersOf l n w → wk′ ≡ stored wk 0 l (length l)
+    → t′ ≡ notesOver wk′ (length t) n w r → store wk′ l t′ ≡ finished l (length t) n w
+unfolding finished recoveredNotes notesOver
+finish-done wk l t n w long e k b =
     let copy : stored wk 0 l (length l) ≡ l = ap (stored wk 0 l) (sym long) ∙ stored-whole wk l (sym long) in
-    rw (k, copy, b, e, m)
+    rw (b, k, copy, e)
+
+-- ---- the notes of the last call
+module _ {l t : List ℕ} {n w : ℕ} (z : Noting l t n w) where
+  pub noting-room : ThreadRoom (length t) n
+  noting-room = record { slots-hi = z .sized .sizes .slots-hi; room = omega (arith, threads-some (length t) n (z .notes) .lo) }
+
+  pub noting-slots : n < 2 ^ 32
+  noting-slots = omega (arith, z .sized .sizes .slots-hi)
+
+  pub noting-blank : {m : ℕ} → m ≡ n → Blanking t m
+  noting-blank e = record { some = omega (arith, z .sized .sizes .slots-lo); room = threads-head (length t) n (z .notes) }
+
+  pub noting-shaped : (m u x : ℕ) {k : ℕ} {t′ : List ℕ} → k ≡ threadsOf (length t) n → t′ ≡ blank (length t) m u x → Shaped l t′ (record { n = n; w = w; t = k })
+  noting-shaped m u x q b =
+      record {
+        working = z .sized;
+        notes = notes-after {tr = t} (rw b (blank-length (length t) m u x)) (rw q (threads-notes t n w (z .sized .sizes .slots-hi) (z .notes)));
+      }
+
+pub noting-done : (l t : List ℕ) (n w : ℕ) (next : Numbers) {m k : ℕ} {t′ t″ : List ℕ} → m ≡ n → k ≡ threadsOf (length t) n → t′ ≡ blank (length t) m (next .uid) (next .order)
+    → t″ ≡ rebuilt (record { n = n; w = w; t = k }) l t′ n → t″ ≡ notesOver l (length t) n w next
+unfolding notesOver
+noting-done l t n w next e q b r = rw (r, b, q, e)
 
 module _ (wk l t : List ℕ) (n w : ℕ) {f : Found} (fr : f ≡ nextFreed l n) where
   pub free-on : {s : ℕ} {h : Header} {l′ : List ℕ} → f ≡ At s → h ≡ freeHeader → l′ ≡ storeLine l (headerLine s h) → outcome WentOn wk l′ t ≡ freeing (nextFreed l n) (store wk l t) n w
@@ -283,19 +310,17 @@ entry-slots l e t q = let z = shaped l (sym e ∙ t) in omega arith
 
 -- ---- past refusals 1 and 2
 entry-passed : (wk l t : List ℕ) {k : Check} → k ≡ recoverEntryCheck (length wk) l (length t) → k ≡ Accepted → Judged wk l t (slotsOf l) (widthOf l)
-unfolding recoverEntryCheck headCheck lengthsFit threadsOk
+unfolding recoverEntryCheck headCheck lengthsFit
 entry-passed wk l t e a =
     let same = eqb (length wk) (length l) in
-    let some = leb 1 (threadsOf (length t) (slotsOf l)) in
-    let few = leb (threadsOf (length t) (slotsOf l)) 16 in
-    let one = not-refused (not (same && (some && few))) BadSizes (headCheck l) (sym e ∙ a) in
-    let fit : same && (some && few) ≡ true = not-false (same && (some && few)) (one .0) in
+    let threads = threadsOk (length t) (slotsOf l) in
+    let one = not-refused (not (same && threads)) BadSizes (headCheck l) (sym e ∙ a) in
+    let fit : same && threads ≡ true = not-false (same && threads) (one .0) in
     let two = not-refused (not (shapeOk l)) BadSizes (refuse (not (clockOk (clockOf l))) BadClock Accepted) (one .1) in
-    let threads : 1 ≤ threadsOf (length t) (slotsOf l) = leb-true _ _ (and-left some few (and-right same (some && few) fit)) in
     record {
       sized = shaped l (not-false (shapeOk l) (two .0));
-      same = eqb-true (length wk) (length l) (and-left same (some && few) fit);
-      notes = omega arith;
+      same = eqb-true (length wk) (length l) (and-left same threads fit);
+      notes = and-right same threads fit;
     }
 
 pub judged : (wk l t : List ℕ) {k : Check} {n w : ℕ} → k ≡ recoverEntryCheck (length wk) l (length t) → k ≡ Accepted → n ≡ slotsOf l → w ≡ widthOf l → Judged wk l t n w
@@ -334,7 +359,6 @@ judged-finishing {wk} {l} {t} {flags} {n} {w} z c a =
         uids = λ i h v. uid-top s h v;
         orders = λ i h v. order-top s h v;
       };
-      some = omega (arith, z .sized .sizes .slots-lo);
       same = z .same;
       notes = z .notes;
     }
@@ -369,4 +393,4 @@ module _ (wk l t : List ℕ) {k : Check} (c : k ≡ recoverEntryCheck (length wk
 -- the walk for what is freed next
 pub ruleset frees = (flag-at, flag-of, header-of, freeing-start, freeing-survives, freeing-stale, freeing-on, freeing-end)
 
-pub ruleset steps = (tests, firsts, marks, flag-at, flag-header, flag-of, anti-is, dies-not, dies-yes, stale-survives, stale-blank, stale-anti, stale-yes, anti-before, anti-here, anti-none, raise-miss, raise-up, raise-level, order-miss, order-job, order-up, order-level, order-name, numbering-start, numbering-next, uid-fits, order-fits, numbers-are, numbered-slot, numbered-flag, finish-marked, finish-header, finish-slots, finish-blank, finish-done, free-on, free-done, entry-shape, entry-working, entry-threads, entry-head, entry-first, entry-slots, judged, judged-long, judged-sized, flags-new, checked-same, judged-finishing, step-declines, step-goes, recover-declines, recover-goes)
+pub ruleset steps = (tests, firsts, marks, flag-at, flag-header, flag-of, anti-is, dies-not, dies-yes, stale-survives, stale-blank, stale-anti, stale-yes, anti-before, anti-here, anti-none, raise-miss, raise-up, raise-level, order-miss, order-job, order-up, order-level, order-name, numbering-start, numbering-next, uid-fits, order-fits, numbers-are, numbered-slot, numbered-flag, finish-marked, finish-header, finish-long, finish-noting, finish-done, noting-room, noting-slots, noting-blank, noting-shaped, noting-done, free-on, free-done, entry-shape, entry-working, entry-threads, entry-head, entry-first, entry-slots, judged, judged-long, judged-sized, flags-new, checked-same, judged-finishing, step-declines, step-goes, recover-declines, recover-goes)

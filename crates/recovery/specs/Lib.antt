@@ -4,4 +4,5 @@ pub mod Steps
 pub mod Recovering
 pub mod Completes
 pub mod Requires
+pub mod Notes
 pub mod Exits

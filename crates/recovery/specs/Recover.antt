@@ -14,7 +14,8 @@ use Rattle.reply.specs.Refusals.{refuse, declinedNumber}
 use Rattle.image.specs.Layout.{queueBoard, isBlank, header, keyAt, slotsOf, widthOf, clockOf, freeHeader}
 use Rattle.image.specs.Line.{headerLine, storeLine}
 use Rattle.transient.specs.Store.{Store, Outcome, outcome, afterCheck}
-use Rattle.transient.specs.Layout.{threadsOk, blank}
+use Rattle.transient.specs.Layout.{threadsOf, threadsOk, blank}
+use Rattle.index.specs.Index.{rebuilt}
 use Rattle.survival.specs.Survivors.{kept, survivor, survivesOn}
 use Rattle.acceptance.specs.Accept.{imageCheck}
 use Rattle.recovery.specs.declared.Recovery.{Recovery}
@@ -49,12 +50,16 @@ lengthsFit working l transient = eqb working (length l) && threadsOk transient (
 unfoldable pub recoverCheck : Store → Check
 recoverCheck st = refuse (not (lengthsFit (length (st .working)) (st .persistent) (length (st .transient)))) BadSizes (imageCheck (st .persistent))
 
+-- the notes that it leaves of so many words: blank, with the index over the slots that are left (02, No. 6: "It is rebuilt by recovery")
+unfoldable pub recoveredNotes : List ℕ → ℕ → ℕ → ℕ → List ℕ
+recoveredNotes l len n w =
+    rebuilt (record { n = n; w = w; t = threadsOf len n }) l (blank len n (nextUid l n) (nextOrder l n w)) n
+
 -- "frees the next such mark, leaves working and notes alone and replies went on. The call that finds none to free replies done;
 -- only there does working become a copy and are the notes set."
 abbrev pub freeing : Found → Store → ℕ → ℕ → Outcome Recovery
 freeing (At s) st n w = outcome WentOn (st .working) (storeLine (st .persistent) (headerLine s freeHeader)) (st .transient)
-freeing Nothing st n w =
-    outcome Done (st .persistent) (st .persistent) (blank (length (st .transient)) n (nextUid (st .persistent) n) (nextOrder (st .persistent) n w))
+freeing Nothing st n w = outcome Done (st .persistent) (st .persistent) (recoveredNotes (st .persistent) (length (st .transient)) n w)
 
 unfoldable pub recover : Store → Outcome Recovery
 recover st =

@@ -12,12 +12,14 @@ use Rattle.reply.specs.declared.Refusal.the-variants.{BadSizes}
 use Rattle.reply.specs.Refusals.{refuse}
 use Rattle.image.specs.Layout.{mostNumber, queueBoard, header, keyAt}
 use Rattle.image.specs.Requires.{Sized}
-use Rattle.transient.specs.Layout.{headWords, blank}
+use Rattle.transient.specs.declared.sizes.Sizes.{Sizes}
+use Rattle.transient.specs.Layout.{threadsOf, threadsOk, blank}
 use Rattle.transient.specs.Store.{Store, store, Outcome, afterCheck}
+use Rattle.index.specs.Index.{rebuilt}
 use Rattle.survival.specs.Survivors.{survivor, survivesOn}
 use Rattle.survival.specs.Requires.{AllMarked}
 use Rattle.acceptance.specs.Requires.{headCheck, slotsCheck}
-use Rattle.recovery.specs.Recover.{antiAt, nextFreed, nextUid, nextOrder, lengthsFit, freeing}
+use Rattle.recovery.specs.Recover.{antiAt, nextFreed, nextUid, nextOrder, lengthsFit, recoveredNotes, freeing}
 use Rattle.recovery.specs.declared.Numbers.{Numbers}
 use Rattle.recovery.specs.declared.Recovery.{Recovery}
 use Rattle.recovery.specs.declared.Recovery.the-variants.{Declined}
@@ -45,22 +47,34 @@ numbers uid order = record { uid = uid; order = order }
 abbrev pub numbersOf : List ℕ → ℕ → ℕ → Numbers
 numbersOf l n w = numbers (nextUid l n) (nextOrder l n w)
 
+-- ---- notes to set beside an image
+pub record Noting (l t : List ℕ) (n w : ℕ) : Type 0 where
+  pub sized : Sized l n w
+  pub notes : threadsOk (length t) n ≡ true
+
+-- the sizes of such
+abbrev pub sizesIn : ℕ → ℕ → ℕ → Sizes
+sizesIn transient n w = record { n = n; w = w; t = threadsOf transient n }
+
+-- in the words of `recoveredNotes`, with these numbers
+unfoldable pub notesOver : List ℕ → ℕ → ℕ → ℕ → Numbers → List ℕ
+notesOver l transient n w next = rebuilt (sizesIn transient n w) l (blank transient n (next .uid) (next .order)) n
+
 -- ---- the last call
 pub record Finishing (wk l t : List ℕ) (flags : List Bool) (n w : ℕ) : Type 0 where
   pub numbers : Numbered l n w flags
-  pub some : 1 ≤ n
   pub same : length wk ≡ length l
-  pub notes : headWords ≤ length t
+  pub notes : threadsOk (length t) n ≡ true
 
 -- what it leaves, in the words of `freeing`
 unfoldable pub finished : List ℕ → ℕ → ℕ → ℕ → Store
-finished l transient n w = store l l (blank transient n (nextUid l n) (nextOrder l n w))
+finished l transient n w = store l l (recoveredNotes l transient n w)
 
 -- ---- past refusals 1 and 2
 pub record Judged (wk l t : List ℕ) (n w : ℕ) : Type 0 where
   pub sized : Sized l n w
   pub same : length wk ≡ length l
-  pub notes : headWords ≤ length t
+  pub notes : threadsOk (length t) n ≡ true
 
 -- what is left of a call then
 unfoldable pub recoverSized : Store → ℕ → ℕ → Outcome Recovery

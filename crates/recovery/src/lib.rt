@@ -3,6 +3,7 @@ use image::header::Header;
 use reply::Check;
 use reply::Refusal;
 use search::Found;
+use transient::sizes::Sizes;
 ghost use mathlib.Core.Path.{_≡_};
 ghost use mathlib.Core.Bool.{not};
 ghost use lib.ListN.{length};
@@ -12,7 +13,7 @@ ghost use Rattle.transient.specs.Store.{store, outcome};
 ghost use Rattle.survival.specs.Survivors.{survivor, survivesOn};
 ghost use Rattle.recovery.specs.Recover.{antiAt, stale, nextFreed, freeing, recover};
 ghost use Rattle.survival.specs.Requires.{FlagAt, HeaderOf, Marked, SlotMarked};
-ghost use Rattle.recovery.specs.Requires.{uidOf, recoverEntryCheck, antiUpTo, finished, numbersOf, Numbered, Finishing, Judged, recoverSized};
+ghost use Rattle.recovery.specs.Requires.{uidOf, recoverEntryCheck, antiUpTo, finished, numbersOf, notesOver, Numbered, Noting, Finishing, Judged, recoverSized};
 
 // One recover call's answer: "went on", "done", or a refusal.
 pub enum Recovery {
@@ -141,6 +142,16 @@ fn next_numbers(img: &[u32], flags: &[bool; 1024], n: usize, w: usize) -> Number
     }
 }
 
+// The notes are set, with the index over an image's filled slots.
+fn set_notes(image: &[u32], transient: &mut [u32], n: usize, w: usize, next: Numbers)
+    requires { ⌜ Noting (now image) (now transient) n w ⌝ }
+    ensures { λ _. ⌜ now (transient .exit) ≡ notesOver (now (image .entry)) (length (now (transient .entry))) n w next ⌝ }
+{
+    let t = transient::notes::threads(transient.len(), n);
+    transient::notes::set_blank(transient, image::shape::narrow(n), next.uid, next.order);
+    index::rebuild(image, transient, Sizes { n, w, t });
+}
+
 // Nothing is left to free: working becomes a copy, and the notes are set.
 fn finish(
     working: &mut [u32],
@@ -155,7 +166,7 @@ fn finish(
 {
     let next = next_numbers(persistent, flags, n, w);
     image::contents::store_words(working, 0, persistent, persistent.len());
-    transient::notes::set_blank(transient, image::shape::narrow(n), next.uid, next.order);
+    set_notes(working, transient, n, w, next);
 }
 
 fn free_next(

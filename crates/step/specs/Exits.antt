@@ -12,11 +12,15 @@ use Rattle.search.specs.declared.Found.the-variants.{At, Nothing}
 use Rattle.image.specs.declared.header.Header.{Header}
 use Rattle.image.specs.Layout.{mostSlots, hasZero, isPayload, header, freeHeader}
 use Rattle.image.specs.Line.{headerLine, clockLine, storeLine}
+use Rattle.image.specs.declared.name.Name.{Name}
+use Rattle.image.specs.Name.{nameAt}
 use Rattle.image.specs.Requires.{heldHeader, heldContents, Slots, slot}
 use Rattle.transient.specs.declared.sizes.Sizes.{Sizes}
 use Rattle.transient.specs.Layout.{retiredIn, isWaiting, setRetired, emptied}
 use Rattle.transient.specs.Store.{store, table}
-use Rattle.transient.specs.Requires.{ShapedSlot, slot-note, slot-head}
+use Rattle.transient.specs.Requires.{NoteOf, ShapedSlot, note-after, slot-note, slot-working, slot-head}
+use Rattle.transient.specs.Laws.{retired-front}
+use Rattle.index.specs.Index.{removed}
 use Rattle.step.specs.declared.Place.{Place}
 use Rattle.step.specs.declared.Advance.the-variants.{WentOn, Ticked}
 use Rattle.step.specs.Step.{idle, reclaimNext, contentsNext, headerNext, clockNext, Stepped, stepped, place, passing, due, reclaimed, contentsFlushed, headerFlushed, ticking, flushFrom, reclaimFrom, step}
@@ -130,12 +134,16 @@ module _ (p : Place) where
       (λ (t : eqb (p .phase) reclaimNext ≡ false). let f = rw t at e in rw f (going-first y))
       (cases (eqb (p .phase) reclaimNext))
 
+-- ---- a slot no longer retired has its note
+pub retired-note : {tr tr′ : List ℕ} {z : Sizes} {s : ℕ} (e : ℕ) → NoteOf tr z s → tr′ ≡ setRetired z tr s e → NoteOf tr′ z s
+retired-note {tr} {tr′} {z} {s} e y q = note-after (rw q (retired-front tr z s e .head .long)) y
+
 -- ---- one line, or the tick
 module _ (z : Sizes) (wk l tr : List ℕ) where
-  pub reclaim-done : (s : ℕ) {wk′ l′ tr′ : List ℕ} {p : Place} → Freed wk l s wk′ l′ → tr′ ≡ setRetired z tr s 0 → p ≡ passing (z .n) s reclaimNext contentsNext
-      → stepped WentOn wk′ l′ tr′ p ≡ reclaimed z (store wk l tr) s
+  pub reclaim-done : (s : ℕ) {name : Name} {wk′ l′ tr′ tr″ : List ℕ} {p : Place} → name ≡ nameAt wk (z .n) (z .w) s → Freed wk l s wk′ l′ → tr′ ≡ setRetired z tr s 0
+      → tr″ ≡ removed z tr′ name s → p ≡ passing (z .n) s reclaimNext contentsNext → stepped WentOn wk′ l′ tr″ p ≡ reclaimed z (store wk l tr) s
   unfolding reclaimed
-  reclaim-done s f r p = rw (f .working, f .persistent, r, p)
+  reclaim-done s e f r q p = rw (f .working, f .persistent, q, r, e, p)
 
   pub header-done : (s : ℕ) {l′ : List ℕ} {p : Place} → l′ ≡ storeLine l (heldHeader wk s) → p ≡ passing (z .n) s contentsNext clockNext → stepped WentOn wk l′ tr p ≡ headerFlushed z (store wk l tr) s
   unfolding headerFlushed
@@ -196,6 +204,6 @@ pub ruleset waits = (pairs, waiting-start, waiting-few, waiting-note, waiting-is
 
 pub ruleset lines = (slots-first, slots-second, header-written, freed-both, passing-on, passing-over)
 
-pub ruleset steps = (requires-laws, going-due, going-wait, reclaim-done, header-done, tick-done, flush-line, flush-tick, reclaim-one, reclaim-none)
+pub ruleset steps = (requires-laws, slot-working, retired-note, going-due, going-wait, reclaim-done, header-done, tick-done, flush-line, flush-tick, reclaim-one, reclaim-none)
 
 pub ruleset stepping = (going-advancing, going-reclaim, reclaim-on, reclaim-first, step-contents, step-header, step-tick, step-reclaim)

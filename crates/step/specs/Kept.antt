@@ -1,14 +1,16 @@
 -- What a step leaves as it was, and what it does to the clocks.
 use Prim.Native.Nat.{ℕ, _+_, _-_, _≤_}
-use mathlib.Core.Path.{_≡_, refl}
+use mathlib.Core.Path.{_≡_, refl, _∙_}
+use mathlib.Core.List.{List}
 use lib.ListN.{length}
 use native.Mathlib.Omega.{arith}
 use Rattle.image.specs.Layout.{clockOf}
 use Rattle.image.specs.Laws.{front-past-header, front-past-contents, clock-same}
 use Rattle.image.specs.Alike.{Alike, unchanged, header-alike, contents-alike, clock-alike}
 use Rattle.transient.specs.declared.sizes.Sizes.{Sizes}
-use Rattle.transient.specs.Laws.{FrontKept, front-same, retired-front, emptied-front}
+use Rattle.transient.specs.Laws.{FrontKept, front-same, head-then, beside-front, retired-front, emptied-front}
 use Rattle.transient.specs.Store.{Store}
+use Rattle.index.specs.Laws.{removed-only}
 use Rattle.step.specs.declared.Place.{Place}
 use Rattle.step.specs.declared.Advance.the-variants.{WentOn, Ticked}
 use Rattle.step.specs.Step.{Stepped, reclaimed, contentsFlushed, headerFlushed, ticking, step}
@@ -29,12 +31,23 @@ pub record Kept (z : Sizes) (st : Store) (c : ℕ) (x : Stepped) : Type 0 where
   pub steady : Steady z st x
   pub clocked : Clocked st c x
 
+-- one change after another
+front-then : {z : Sizes} {a b c : List ℕ} → FrontKept z a b → FrontKept z b c → FrontKept z a c
+front-then x y =
+    record {
+      head = head-then (x .head) (y .head);
+      noted = y .noted ∙ x .noted;
+      last = y .last ∙ x .last;
+      uid = y .uid ∙ x .uid;
+      order = y .order ∙ x .order;
+    }
+
 module _ (z : Sizes) (st : Store) (c : ℕ) (long : 3 ≤ length (st .working)) (also : 3 ≤ length (st .persistent)) where
   reclaim-kept : (s : ℕ) → Kept z st c (reclaimed z st s)
   unfolding reclaimed
   reclaim-kept s =
       record {
-        steady = record { working = header-alike (st .working) s _; persistent = header-alike (st .persistent) s _; notes = retired-front (st .transient) z s 0 };
+        steady = record { working = header-alike (st .working) s _; persistent = header-alike (st .persistent) s _; notes = front-then (retired-front (st .transient) z s 0) (beside-front (removed-only z _ _ s)) };
         clocked = on refl (front-past-header (st .working) s 2 _ (omega arith)) (front-past-header (st .persistent) s 2 _ (omega arith));
       }
 

@@ -6,9 +6,11 @@ use lib.Dec.{leb, ltb, eqb}
 use Rattle.search.specs.First.{firstOf, whereFound}
 use Rattle.image.specs.Layout.{hasZero, isPayload, header, contents, freeHeader}
 use Rattle.image.specs.Line.{headerLine, contentsLine, clockLine, storeLine}
+use Rattle.image.specs.Name.{nameAt}
 use Rattle.transient.specs.declared.sizes.Sizes.{Sizes}
 use Rattle.transient.specs.Layout.{retiredIn, isWaiting, setRetired, emptied}
 use Rattle.transient.specs.Store.{Store, Table, store, tableOf}
+use Rattle.index.specs.Index.{removed}
 use Rattle.step.specs.declared.Place.{Place}
 use Rattle.step.specs.declared.Advance.{Advance}
 use Rattle.step.specs.declared.Advance.the-variants.{WentOn, Ticked}
@@ -52,10 +54,11 @@ due z tb c s =
     (isPayload (header (tb .working) s) && (not (eqb (retiredIn z (tb .transient) s) 0) && eqb (retiredIn z (tb .transient) s + 2) c))
     || (not (hasZero (header (tb .working) s)) && (eqb (header (tb .working) s .kind) 3 && eqb (header (tb .working) s .epoch + 3) c))
 
+-- it is no longer retired, nor in the index
 unfoldable pub reclaimed : Sizes → Store → ℕ → Stepped
 reclaimed z st s =
     stepped WentOn (storeLine (st .working) (headerLine s freeHeader)) (storeLine (st .persistent) (headerLine s freeHeader))
-    (setRetired z (st .transient) s 0) (passing (z .n) s reclaimNext contentsNext)
+    (removed z (setRetired z (st .transient) s 0) (nameAt (st .working) (z .n) (z .w) s) s) (passing (z .n) s reclaimNext contentsNext)
 
 -- ---- step 2: "In slot order, each slot of the waiting list of c − 1: its contents line, then its mark line, as working holds
 -- them then."

@@ -61,7 +61,7 @@ fn passing(n: usize, s: usize, phase: u32, next: u32) -> Place
     }
 }
 
-// The slot becomes free in both images.
+// The slot becomes free in both images, and leaves the index.
 fn reclaim(
     working: &mut [u32],
     persistent: &mut [u32],
@@ -73,8 +73,10 @@ fn reclaim(
     requires { ⌜ Going (now working) (now persistent) (now transient) z c s ⌝ }
     ensures { λ r. ⌜ moved r (now (working .exit)) (now (persistent .exit)) (now (transient .exit)) ≡ reclaimed z (store (now (working .entry)) (now (persistent .entry)) (now (transient .entry))) s ⌝ }
 {
+    let name = image::name::name_at(working, z.n, z.w, s);
     crate::lines::free_both(working, persistent, z, s);
     transient::notes::set_retired(transient, z, s, 0);
+    index::remove(transient, z, name, s);
     let place = passing(z.n, s, Place::RECLAIM, Place::CONTENTS);
     Moved {
         ticked: false,

@@ -12,7 +12,7 @@ use native.Mathlib.Omega.{arith}
 use native.Mathlib.Nat.{eq-or-lt-of-le}
 use mir.Val.{Fits}
 use mir.Syntax.{w64}
-use Rattle.search.specs.Bools.{cases}
+use Rattle.search.specs.Bools.{cases, and-left, and-right}
 use Rattle.search.specs.First.{first, first-of, Sought, sought-start, sought-next, sought-pass, found-hit, found-end, Next, first-next}
 use Rattle.search.specs.Some.{anyOf, some-at, none-some}
 use Rattle.search.specs.Count.{count}
@@ -29,13 +29,15 @@ use Rattle.image.specs.Laws.{area-top}
 use Rattle.image.specs.Storing.{storing-end}
 use Rattle.transient.specs.declared.sizes.Sizes.{Sizes}
 use Rattle.transient.specs.Layout.{note, lastAt, retiredIn, setNote, setRetired, setWaiting}
+use Rattle.transient.specs.Laws.{retired-front, waiting-front}
 use Rattle.transient.specs.Store.{Table, table}
 use Rattle.transient.specs.Requires.{Shaped, Entered, note-after, note-head, note-slot, shaped-slot, slot-note, slot-working, slot-head, entered-head}
 use Rattle.transient.specs.Clearing.{emptying-start, emptying-next}
 use Rattle.table.specs.declared.find.Lookup.the-variants.{Later, Live, Absent}
-use Rattle.table.specs.Find.{newerAt, liveAt, liveSlot, lookup, freeAt, room}
-use Rattle.table.specs.Fill.{filledSlot, joined, taken}
-use Rattle.table.specs.Requires.{jobAt, hasKey, keyFrom, KeysFrom, Ring, RingStart, nextSlot, sooner, setValue, ring-header, shaped-in, slot-value, value-slot, header-after}
+use Rattle.table.specs.Find.{listed, newerAt, liveAt, newerOn, liveOn, liveSlot, lookup, freeAt, room}
+use Rattle.table.specs.Fill.{filledSlot, joined, taken, freed}
+use Rattle.index.specs.Index.{inserted, removed}
+use Rattle.table.specs.Requires.{jobAt, hasKey, keyed, keyFrom, Keyed, Ring, RingStart, nextSlot, sooner, setValue, ring-header, shaped-in, slot-value, value-slot, header-after}
 use Rattle.table.specs.Laws.{key-then-value}
 
 -- ---- newer, live: the name is the last part of the tests, and the first that is looked at: the key by the walk, then the board
@@ -163,64 +165,87 @@ ascending-pass {p} {q} {n} {s} {live} (suc d) y h f g =
     let u = ascending-pass d y (omega arith) (λ j a b. f j a (omega arith)) (λ j a b. g j a (omega arith)) in
     rw e (ascending-next u (omega arith) refl (f (s + d) (omega arith) (omega arith)) (sooner-not n (s + d) live refl (g (s + d) (omega arith) (omega arith))))
 
--- ---- the two walks, at a slot with the key or at the end
-pub keys-all : {wk tr : List ℕ} {z : Sizes} → Shaped wk tr z → KeysFrom wk z 0
-keys-all y = record { working = y .working; top = omega arith }
+-- ---- the two walks, at a slot of the chain with the key or at the end
+module _ (z : Sizes) (tb : Table) (key : ℕ) where
+  next-key : {from s : ℕ} → from ≤ z .n → s ≡ keyFrom z tb key from → Next (keyed z tb key) (z .n) from s
+  next-key h q = first-next (keyed z tb key) h q
 
-pub keys-after : {wk tr : List ℕ} {z : Sizes} {s : ℕ} → Shaped wk tr z → s < z .n → KeysFrom wk z (s + 1)
-keys-after y h = record { working = y .working; top = omega arith }
-
-module _ (z : Sizes) (wk : List ℕ) (key : ℕ) where
-  next-key : {from s : ℕ} → from ≤ z .n → s ≡ keyFrom z wk key from → Next (hasKey z wk key) (z .n) from s
-  next-key h q = first-next (hasKey z wk key) h q
-
-  pub key-less : {s s′ : ℕ} → s < z .n → s′ ≡ keyFrom z wk key (s + 1) → z .n - s′ < z .n - s
+  pub key-less : {s s′ : ℕ} → s < z .n → s′ ≡ keyFrom z tb key (s + 1) → z .n - s′ < z .n - s
   key-less h q = omega (arith, next-key (omega arith) q .above)
 
-module _ (z : Sizes) (tb : Table) (key : ℕ) where
+  -- a slot with the key is on the chain, and one that is not, or has another key, is neither newer nor live there
+  pub record Here (s : ℕ) : Type 0 where
+    pub has : keyAt (tb .working) (z .n) (z .w) s ≡ key
+    pub on : listed z (tb .transient) (jobName key) s ≡ true
+
+  here : (s : ℕ) → keyed z tb key s ≡ true → Here s
+  unfolding keyed hasKey
+  here s e =
+      let a = listed z (tb .transient) (jobName key) s in
+      record { has = eqb-true _ key (and-right a _ e); on = and-left a _ e }
+
+  module _ (s : ℕ) (f : keyed z tb key s ≡ false) where
+    another : hasKey z (tb .working) key s ≡ false → false ≡ sameName (nameAt (tb .working) (z .n) (z .w) s) (jobName key)
+    unfolding hasKey sameName nameAt keyAt
+    another k = rw k
+
+    other : listed z (tb .transient) (jobName key) s ≡ true → false ≡ sameName (nameAt (tb .working) (z .n) (z .w) s) (jobName key)
+    unfolding keyed
+    other t = let k : hasKey z (tb .working) key s ≡ false = rw t at f in another k
+
+    newer-none : (e : ℕ) → newerOn z tb (jobName key) e s ≡ false
+    unfolding newerOn
+    newer-none e =
+        ⊎-elim
+        (λ (t : listed z (tb .transient) (jobName key) s ≡ true). rw t (sym (newer-other z (tb .working) (jobName key) e s (other t) refl)))
+        (λ (u : listed z (tb .transient) (jobName key) s ≡ false). rw u)
+        (cases (listed z (tb .transient) (jobName key) s))
+
+    live-none : liveOn z tb (jobName key) s ≡ false
+    unfolding liveOn
+    live-none =
+        ⊎-elim
+        (λ (t : listed z (tb .transient) (jobName key) s ≡ true). rw t (sym (live-other z tb (jobName key) s (other t) refl)))
+        (λ (u : listed z (tb .transient) (jobName key) s ≡ false). rw u)
+        (cases (listed z (tb .transient) (jobName key) s))
+
+  -- what is asked of a slot with the key
+  module _ {s : ℕ} (y : Here s) {a : Bool} where
+    newer-here : (e : ℕ) → a ≡ newerAt z (tb .working) (jobAt z (tb .working) s) e s → a ≡ newerOn z tb (jobName key) e s
+    unfolding newerOn
+    newer-here e q = rw (y .on) (rw (y .has) at q)
+
+    live-here : a ≡ liveAt z tb (jobAt z (tb .working) s) s → a ≡ liveOn z tb (jobName key) s
+    unfolding liveOn
+    live-here q = rw (y .on) (rw (y .has) at q)
+
   pub record Finding (s : ℕ) : Type 0 where
-    pub here : s < z .n → keyAt (tb .working) (z .n) (z .w) s ≡ key
-    pub sought : Sought (liveAt z tb (jobName key)) (z .n) s
+    pub at : s < z .n → Here s
+    pub sought : Sought (liveOn z tb (jobName key)) (z .n) s
 
   pub record LookingUp (e s live : ℕ) : Type 0 where
-    pub here : s < z .n → keyAt (tb .working) (z .n) (z .w) s ≡ key
-    pub walk : Ascending (newerAt z (tb .working) (jobName key) e) (liveAt z tb (jobName key)) (z .n) s live
-
-  -- a slot with another key is neither newer nor live
-  module _ (s : ℕ) (f : hasKey z (tb .working) key s ≡ false) where
-    another : false ≡ sameName (nameAt (tb .working) (z .n) (z .w) s) (jobName key)
-    unfolding hasKey sameName nameAt keyAt
-    another = rw f
-
-    newer-none : (e : ℕ) → newerAt z (tb .working) (jobName key) e s ≡ false
-    newer-none e = sym (newer-other z (tb .working) (jobName key) e s another refl)
-
-    live-none : liveAt z tb (jobName key) s ≡ false
-    live-none = sym (live-other z tb (jobName key) s another refl)
+    pub at : s < z .n → Here s
+    pub walk : Ascending (newerOn z tb (jobName key) e) (liveOn z tb (jobName key)) (z .n) s live
 
   -- on to the next slot with the key
-  module _ {from s : ℕ} (h : from ≤ z .n) (q : s ≡ keyFrom z (tb .working) key from) where
-    next : Next (hasKey z (tb .working) key) (z .n) from s
-    next = next-key z (tb .working) key h q
-
-    has : s < z .n → keyAt (tb .working) (z .n) (z .w) s ≡ key
-    unfolding hasKey
-    has b = eqb-true _ key (next .passes b)
+  module _ {from s : ℕ} (h : from ≤ z .n) (q : s ≡ keyFrom z tb key from) where
+    next : Next (keyed z tb key) (z .n) from s
+    next = next-key h q
 
     reached : from + (s - from) ≡ s
     reached = omega (arith, next .above)
 
-    find-on : Sought (liveAt z tb (jobName key)) (z .n) from → Finding s
+    find-on : Sought (liveOn z tb (jobName key)) (z .n) from → Finding s
     find-on y =
         record {
-          here = has;
+          at = λ b. here s (next .passes b);
           sought = rw reached at (sought-pass (s - from) y (omega (arith, next .top)) (λ j a b. live-none j (next .before j a (omega arith))));
         }
 
-    look-on : {e live : ℕ} → Ascending (newerAt z (tb .working) (jobName key) e) (liveAt z tb (jobName key)) (z .n) from live → LookingUp e s live
+    look-on : {e live : ℕ} → Ascending (newerOn z tb (jobName key) e) (liveOn z tb (jobName key)) (z .n) from live → LookingUp e s live
     look-on {e} y =
         record {
-          here = has;
+          at = λ b. here s (next .passes b);
           walk =
               rw reached at
               (ascending-pass (s - from) y (omega (arith, next .top)) (λ j a b. newer-none j (next .before j a (omega arith)) e)
@@ -228,7 +253,7 @@ module _ (z : Sizes) (tb : Table) (key : ℕ) where
         }
 
   -- the first live slot
-  pub finding-start : {s : ℕ} → s ≡ keyFrom z (tb .working) key 0 → Finding s
+  pub finding-start : {s : ℕ} → s ≡ keyFrom z tb key 0 → Finding s
   finding-start q = find-on (omega arith) q (sought-start _ (z .n))
 
   module _ {s : ℕ} (y : Finding s) where
@@ -237,54 +262,57 @@ module _ (z : Sizes) (tb : Table) (key : ℕ) where
     finding-end h = found-end (y .sought) h
 
     module _ {a : Bool} (h : s < z .n) (q : a ≡ liveAt z tb (jobAt z (tb .working) s) s) where
-      live-is : a ≡ liveAt z tb (jobName key) s
-      live-is = rw (y .here h) at q
-
       pub finding-hit : a ≡ true → At s ≡ liveSlot z tb (jobName key)
       unfolding liveSlot
-      finding-hit t = found-hit (y .sought) h live-is t
+      finding-hit t = found-hit (y .sought) h (live-here (y .at h) q) t
 
-      pub finding-next : {s′ : ℕ} → a ≡ false → s′ ≡ keyFrom z (tb .working) key (s + 1) → Finding s′
-      finding-next f k = find-on (omega arith) k (sought-next (y .sought) h live-is f)
+      pub finding-next : {s′ : ℕ} → a ≡ false → s′ ≡ keyFrom z tb key (s + 1) → Finding s′
+      finding-next f k = find-on (omega arith) k (sought-next (y .sought) h (live-here (y .at h) q) f)
 
   -- both questions
-  pub looking-start : (e : ℕ) {s : ℕ} → s ≡ keyFrom z (tb .working) key 0 → LookingUp e s (z .n)
+  pub looking-start : (e : ℕ) {s : ℕ} → s ≡ keyFrom z tb key 0 → LookingUp e s (z .n)
   looking-start e q = look-on (omega arith) q (ascending-start _ _ (z .n))
 
   module _ (e : ℕ) {s live : ℕ} (y : LookingUp e s live) where
     module _ {a : Bool} (h : s < z .n) (q : a ≡ newerAt z (tb .working) (jobAt z (tb .working) s) e s) where
-      newer-is : a ≡ newerAt z (tb .working) (jobName key) e s
-      newer-is = rw (y .here h) at q
-
       pub lookup-later : a ≡ true → Later ≡ lookup z tb (jobName key) e
       unfolding lookup
-      lookup-later t = rw (ascending-newer (y .walk) h newer-is t)
+      lookup-later t = rw (ascending-newer (y .walk) h (newer-here (y .at h) e q) t)
 
       pub looking-next : {live′ s′ : ℕ} → a ≡ false → live′ ≡ sooner (liveAt z tb (jobAt z (tb .working) s) s) (z .n) s live
-          → s′ ≡ keyFrom z (tb .working) key (s + 1) → LookingUp e s′ live′
-      looking-next f m k = look-on (omega arith) k (ascending-next (y .walk) h newer-is f (rw (y .here h) at m))
+          → s′ ≡ keyFrom z tb key (s + 1) → LookingUp e s′ live′
+      looking-next f m k =
+          look-on (omega arith) k (ascending-next (y .walk) h (newer-here (y .at h) e q) f (rw (live-here (y .at h) refl) at m))
 
-    none-newer : z .n ≤ s → anyOf (newerAt z (tb .working) (jobName key) e) (z .n) ≡ false
-    none-newer h = none-some (newerAt z (tb .working) (jobName key) e) (z .n) (λ k l. y .walk .none k (omega (arith, y .walk .low)))
+    none-newer : z .n ≤ s → anyOf (newerOn z tb (jobName key) e) (z .n) ≡ false
+    none-newer h = none-some (newerOn z tb (jobName key) e) (z .n) (λ k l. y .walk .none k (omega (arith, y .walk .low)))
 
-    first-is : live < z .n → first (liveAt z tb (jobName key)) 0 (z .n) ≡ live
+    first-is : live < z .n → first (liveOn z tb (jobName key)) 0 (z .n) ≡ live
     first-is l = let u = y .walk .so-far in rw (lt-ltb live (z .n) l) at u
 
-    none-live : z .n ≤ s → z .n ≤ live → first (liveAt z tb (jobName key)) 0 (z .n) ≡ z .n
+    none-live : z .n ≤ s → z .n ≤ live → first (liveOn z tb (jobName key)) 0 (z .n) ≡ z .n
     unfolding first
     none-live h l =
         let a : z .n - s ≡ 0 = omega arith in
         let b : s ≡ z .n = omega (arith, y .walk .low) in
-        let u : first (liveAt z tb (jobName key)) 0 (z .n) ≡ s = rw (le-ltb live (z .n) l, a) at (y .walk .so-far) in
+        let u : first (liveOn z tb (jobName key)) 0 (z .n) ≡ s = rw (le-ltb live (z .n) l, a) at (y .walk .so-far) in
         u ∙ b
 
     pub lookup-live : z .n ≤ s → live < z .n → Live live ≡ lookup z tb (jobName key) e
     unfolding lookup liveSlot
-    lookup-live h l = rw (none-newer h, first-of (liveAt z tb (jobName key)) (z .n), first-is l, lt-ltb live (z .n) l)
+    lookup-live h l = rw (none-newer h, first-of (liveOn z tb (jobName key)) (z .n), first-is l, lt-ltb live (z .n) l)
 
     pub lookup-absent : z .n ≤ s → z .n ≤ live → Absent ≡ lookup z tb (jobName key) e
     unfolding lookup liveSlot
-    lookup-absent h l = rw (none-newer h, first-of (liveAt z tb (jobName key)) (z .n), none-live h l, le-ltb (z .n) (z .n) (omega arith))
+    lookup-absent h l = rw (none-newer h, first-of (liveOn z tb (jobName key)) (z .n), none-live h l, le-ltb (z .n) (z .n) (omega arith))
+
+-- the next slot is asked for from one of the chain
+module _ {wk tr : List ℕ} {z : Sizes} (key : ℕ) {s : ℕ} (y : Shaped wk tr z) (h : s < z .n) where
+  pub finding-keyed : Finding z (table wk tr) key s → Keyed wk tr z key s
+  finding-keyed u = record { shaped = y; within = h; on = u .at h .on }
+
+  pub looking-keyed : {e live : ℕ} → LookingUp z (table wk tr) key e s live → Keyed wk tr z key s
+  looking-keyed u = record { shaped = y; within = h; on = u .at h .on }
 
 -- ---- round the table: the walk has met k slots, and s is the last of them
 module _ (n s : ℕ) where
@@ -444,14 +472,22 @@ module _ (z : Sizes) (l : List ℕ) (s key : ℕ) (h : Header) {a b c : List ℕ
 
 -- ---- notes
 module _ (z : Sizes) (tr : List ℕ) (e s : ℕ) where
+  pub joined-long : length (joined z tr e s) ≡ length tr
+  unfolding joined
+  joined-long = waiting-front (setRetired z tr s 0) z e s .head .long ∙ retired-front tr z s 0 .head .long
+
   pub joined-done : {b c : List ℕ} → b ≡ setRetired z tr s 0 → c ≡ setWaiting z b e s → c ≡ joined z tr e s
   unfolding joined
   joined-done r u = rw (u, r)
 
-  pub taken-done : {m : ℕ} {a b c : List ℕ} → m ≡ s → a ≡ setNote lastAt tr m → b ≡ setRetired z a s 0 → c ≡ setWaiting z b e s → c ≡ taken z tr e s
-  unfolding taken joined
-  taken-done p q r u = rw (u, r, q, p)
+  pub taken-done : (name : Name) {m : ℕ} {a b c : List ℕ} → m ≡ s → a ≡ setNote lastAt tr m → b ≡ joined z a e s → c ≡ inserted z b name s → c ≡ taken z tr e s name
+  unfolding taken
+  taken-done name p q r u = rw (u, r, q, p)
 
-pub ruleset finds = (next-ahead, next-round, turning-start, turning-ring, turning-header, turning-end, turning-hit, turning-next, shaped-slot, shaped-in, slot-note, slot-working, slot-head, slot-header, job-named, newer-other, newer-free, newer-epoch, live-other, live-not, live-retired, sooner-old, sooner-here, sooner-not, keys-all, keys-after, key-less, finding-start, finding-next, finding-hit, finding-end, looking-start, looking-next, lookup-later, lookup-live, lookup-absent, free-no, free-yes, entered-head, rooms-all, rooms-rest, room-one, room-none, room-two, room-alone)
+  pub freed-done : (name : Name) {b c : List ℕ} → b ≡ joined z tr e s → c ≡ removed z b name s → c ≡ freed z tr e s name
+  unfolding freed
+  freed-done name r u = rw (u, r)
 
-pub ruleset fills = (emptying-start, emptying-next, storing-end, slot-of, key-in, value-fits, value-room, key-set, value-set, slot-value, value-slot, slot-after, header-after, filled-value, filled-zeros, note-head, note-slot, note-after, taken-done, joined-done)
+pub ruleset finds = (next-ahead, next-round, turning-start, turning-ring, turning-header, turning-end, turning-hit, turning-next, shaped-slot, shaped-in, slot-note, slot-working, slot-head, slot-header, job-named, newer-other, newer-free, newer-epoch, live-other, live-not, live-retired, sooner-old, sooner-here, sooner-not, key-less, finding-keyed, looking-keyed, finding-start, finding-next, finding-hit, finding-end, looking-start, looking-next, lookup-later, lookup-live, lookup-absent, free-no, free-yes, entered-head, rooms-all, rooms-rest, room-one, room-none, room-two, room-alone)
+
+pub ruleset fills = (emptying-start, emptying-next, storing-end, slot-of, key-in, value-fits, value-room, key-set, value-set, slot-value, value-slot, slot-after, header-after, filled-value, filled-zeros, note-head, note-slot, note-after, joined-long, taken-done, joined-done, freed-done)

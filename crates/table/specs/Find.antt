@@ -15,6 +15,7 @@ use Rattle.image.specs.Name.{nameAt, sameName}
 use Rattle.transient.specs.declared.sizes.Sizes.{Sizes}
 use Rattle.transient.specs.Layout.{note, lastAt, retiredIn}
 use Rattle.transient.specs.Store.{Table}
+use Rattle.index.specs.Index.{bucketOf, onChain}
 use Rattle.table.specs.declared.find.Lookup.{Lookup}
 use Rattle.table.specs.declared.find.Lookup.the-variants.{Later, Live, Absent}
 
@@ -27,9 +28,19 @@ unfoldable pub liveAt : Sizes → Table → Name → ℕ → Bool
 liveAt z tb name s =
     isPayload (header (tb .working) s) && (eqb (retiredIn z (tb .transient) s) 0 && sameName (nameAt (tb .working) (z .n) (z .w) s) name)
 
+-- 02, No. 6: "no read should walk every slot": a name is looked for among the slots on the chain of its bucket
+unfoldable pub listed : Sizes → List ℕ → Name → ℕ → Bool
+listed z tr name s = onChain z tr (bucketOf (z .n) name) s
+
+unfoldable pub newerOn : Sizes → Table → Name → ℕ → ℕ → Bool
+newerOn z tb name e s = listed z (tb .transient) name s && newerAt z (tb .working) name e s
+
+unfoldable pub liveOn : Sizes → Table → Name → ℕ → Bool
+liveOn z tb name s = listed z (tb .transient) name s && liveAt z tb name s
+
 -- "of several live slots with one key, the lowest"
 unfoldable pub liveSlot : Sizes → Table → Name → Found
-liveSlot z tb name = firstOf (liveAt z tb name) (z .n)
+liveSlot z tb name = firstOf (liveOn z tb name) (z .n)
 
 -- by what a key finds: a later epoch has it, a live slot holds it, or neither
 abbrev pub byLookup : {A : Type 0} → Lookup → A → (ℕ → A) → A → A
@@ -39,7 +50,7 @@ byLookup Absent later live absent = absent
 
 -- refusal 9 first, then the live job
 unfoldable pub lookup : Sizes → Table → Name → ℕ → Lookup
-lookup z tb name e = cond (anyOf (newerAt z (tb .working) name e) (z .n)) Later (whereFound (liveSlot z tb name) Live Absent)
+lookup z tb name e = cond (anyOf (newerOn z tb name e) (z .n)) Later (whereFound (liveSlot z tb name) Live Absent)
 
 -- "Calls other than recover take a kind above 3 as free"
 unfoldable pub freeAt : List ℕ → ℕ → Bool

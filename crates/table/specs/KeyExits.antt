@@ -1,124 +1,118 @@
--- The ways out of the functions that go to the next slot with a key.
-use Prim.Native.Nat.{ℕ, _+_, _-_, _≤_, _<_}
+-- The ways out of the functions that go along a chain to the next slot with a key.
+use Prim.Native.Nat.{ℕ, zero, suc, _+_, _-_, _≤_, _<_}
 use mathlib.Core.Path.{_≡_, refl, sym, _∙_}
-use mathlib.Core.Bool.{Bool, true, false, cond}
+use mathlib.Core.Bool.{Bool, true, false}
 use mathlib.Core.List.{List}
-use mathlib.Core.Logic.{⊎-elim}
 use lib.Dec.{eqb}
 use native.Mathlib.Omega.{arith}
-use Rattle.search.specs.Bools.{cases}
-use Rattle.search.specs.First.{whereFound, first, Seeking, seeking-start, seeking-next, seeking-hit, seeking-end}
-use Rattle.search.specs.declared.Found.{Found}
-use Rattle.search.specs.declared.Found.the-variants.{At, Nothing}
-use Rattle.image.specs.Layout.{mostSlots, keyAt}
+use Rattle.search.specs.First.{first, Seeking, seeking-start, seeking-next, seeking-hit, seeking-end, Next}
+use Rattle.image.specs.Layout.{keyAt}
+use Rattle.image.specs.declared.name.Name.{Name}
+use Rattle.image.specs.Name.{jobName}
 use Rattle.image.specs.Requires.{Slot, slot}
 use Rattle.transient.specs.declared.sizes.Sizes.{Sizes}
-use Rattle.table.specs.Requires.{hasKey, firstOfTwo, firstOfFour, Row, KeysFrom}
-
--- ---- slot by slot
-pub keys-few : {wk : List ℕ} {z : Sizes} {from : ℕ} → KeysFrom wk z from → z .n ≤ mostSlots
-keys-few y = y .working .sizes .slots-hi
-
-pub keys-slot : {wk : List ℕ} {z : Sizes} {from s : ℕ} → KeysFrom wk z from → s < z .n → Slot wk (z .n) (z .w) s
-keys-slot y h = slot (y .working) h
+use Rattle.transient.specs.Layout.{bucketAt, linkAt}
+use Rattle.transient.specs.Store.{Table, table}
+use Rattle.transient.specs.Requires.{Shaped}
+use Rattle.index.specs.Index.{bucketOf}
+use Rattle.index.specs.Requires.{leadsTo, Chained}
+use Rattle.index.specs.Walk.{first-chain, next-chain}
+use Rattle.table.specs.Find.{listed}
+use Rattle.table.specs.Requires.{hasKey, keyed, OnChain, Keyed}
 
 pub key-is : (z : Sizes) (wk : List ℕ) (key s : ℕ) {k : ℕ} → k ≡ keyAt wk (z .n) (z .w) s → eqb k key ≡ hasKey z wk key s
 unfolding hasKey
 key-is z wk key s e = rw e
 
-pub keys-start : (p : ℕ → Bool) {wk : List ℕ} {z : Sizes} {from : ℕ} → KeysFrom wk z from → Seeking p (z .n) from from
-keys-start p y = seeking-start p (y .top)
+-- ---- the chain of a name: its first slot, and the next one
+pub shaped-chained : {wk tr : List ℕ} {z : Sizes} → Shaped wk tr z → Chained tr z
+shaped-chained y = record { notes = y .notes; some = omega (arith, y .working .sizes .slots-lo) }
 
--- ---- of two and of four
-module _ {wk : List ℕ} {z : Sizes} (s : ℕ) where
-  pub row-few : {k : ℕ} → Row wk z s k → s + k < mostSlots
-  row-few y = omega (arith, y .below, y .working .sizes .slots-hi)
+module _ (z : Sizes) (tr : List ℕ) (name : Name) where
+  first-listed : {t : ℕ} → t ≡ leadsTo tr (bucketAt z (bucketOf (z .n) name)) 0 (z .n) → Next (listed z tr name) (z .n) 0 t
+  unfolding listed
+  first-listed q = first-chain z tr (bucketOf (z .n) name) (z .n) q
 
-  pub row-first : {k : ℕ} → Row wk z s k → Slot wk (z .n) (z .w) s
-  row-first y = slot (y .working) (omega (arith, y .below))
+  next-listed : {s t : ℕ} → listed z tr name s ≡ true → s < z .n → t ≡ leadsTo tr (linkAt z s) (s + 1) (z .n) → Next (listed z tr name) (z .n) (s + 1) t
+  unfolding listed
+  next-listed e h q = next-chain z tr (bucketOf (z .n) name) (z .n) e h q
 
-  pub row-last : (k : ℕ) → Row wk z s k → Slot wk (z .n) (z .w) (s + k)
-  row-last k y = slot (y .working) (y .below)
+-- ---- what is not listed does not have the key on the chain
+keyed-listed : (z : Sizes) (tb : Table) (key s : ℕ) → listed z (tb .transient) (jobName key) s ≡ false → keyed z tb key s ≡ false
+unfolding keyed
+keyed-listed z tb key s f = rw f
 
-  pub row-half : Row wk z s 3 → Row wk z s 1
-  row-half y = record { working = y .working; below = omega (arith, y .below) }
+keyed-is : (z : Sizes) (tb : Table) (key s : ℕ) {b : Bool} → listed z (tb .transient) (jobName key) s ≡ true → b ≡ hasKey z (tb .working) key s → b ≡ keyed z tb key s
+unfolding keyed
+keyed-is z tb key s t e = rw t e
 
-  pub row-rest : (j : ℕ) → j ≤ 2 → Row wk z s 3 → Row wk z (s + j) 1
-  row-rest j h y = record { working = y .working; below = omega (arith, y .below) }
+seeking-pass : {p : ℕ → Bool} {n from i : ℕ} (d : ℕ) → Seeking p n from i → i + d ≤ n → ((j : ℕ) → i ≤ j → j < i + d → p j ≡ false) → Seeking p n from (i + d)
+seeking-pass {p} {n} {from} {i} zero s h f = let e : i + 0 ≡ i = omega arith in rw e s
+seeking-pass {p} {n} {from} {i} (suc d) s h f =
+    let e : i + suc d ≡ i + d + 1 = omega arith in
+    rw e (seeking-next (seeking-pass d s (omega arith) (λ j a b. f j a (omega arith))) (omega arith) refl (f (i + d) (omega arith) (omega arith)))
 
-module _ (p : ℕ → Bool) (s : ℕ) where
-  module _ {a : Bool} (ea : a ≡ p s) where
-    pub two-first : a ≡ true → At s ≡ firstOfTwo p s
-    unfolding firstOfTwo
-    two-first t = rw (← ea, t)
+-- the search goes on from the next slot of the chain
+seeking-to : {p q : ℕ → Bool} {n from i t : ℕ} → Seeking p n from i → Next q n i t → ((j : ℕ) → q j ≡ false → p j ≡ false) → Seeking p n from t
+seeking-to {i = i} {t = t} y x f =
+    let e : i + (t - i) ≡ t = omega (arith, x .above) in
+    rw e at (seeking-pass (t - i) y (omega (arith, x .above, x .top)) (λ j a b. f j (x .before j a (omega (arith, x .above)))))
 
-    module _ {b : Bool} (fa : a ≡ false) (eb : b ≡ p (s + 1)) where
-      pub two-second : b ≡ true → At (s + 1) ≡ firstOfTwo p s
-      unfolding firstOfTwo
-      two-second t = rw (← ea, fa, ← eb, t)
+-- ---- along the chain: none from `from` up to s has the key, and s is on the chain
+pub record Keying (z : Sizes) (tb : Table) (key from s : ℕ) : Type 0 where
+  pub seeking : Seeking (keyed z tb key) (z .n) from s
+  pub on : s < z .n → listed z (tb .transient) (jobName key) s ≡ true
 
-      pub two-none : b ≡ false → Nothing ≡ firstOfTwo p s
-      unfolding firstOfTwo
-      two-none f = rw (← ea, fa, ← eb, f)
+module _ {wk tr : List ℕ} {z : Sizes} {key from : ℕ} (y : OnChain wk tr z key from) where
+  pub keying-start : Keying z (table wk tr) key from from
+  keying-start = record { seeking = seeking-start (keyed z (table wk tr) key) (y .top); on = y .on }
 
-  module _ {f : Found} (e : f ≡ firstOfTwo p s) where
-    pub four-half : {k : ℕ} → f ≡ At k → At k ≡ firstOfFour p s
-    unfolding firstOfFour
-    four-half q = rw (← e, q)
+  pub keying-slot : (s : ℕ) → s < z .n → Slot wk (z .n) (z .w) s
+  keying-slot s h = slot (y .shaped .working) h
 
-    pub four-rest : {g : Found} → f ≡ Nothing → g ≡ firstOfTwo p (s + 2) → g ≡ firstOfFour p s
-    unfolding firstOfFour
-    four-rest q o = rw (← e, q) o
+module _ {z : Sizes} {tb : Table} {key from s : ℕ} (y : Keying z tb key from s) where
+  pub keying-end : z .n ≤ s → s ≡ first (keyed z tb key) from (z .n - from)
+  keying-end h = seeking-end (y .seeking) h
 
--- ---- four in a round: what is found is the first, else the walk has passed them
-pub keys-row : {wk : List ℕ} {z : Sizes} {from : ℕ} (s : ℕ) → KeysFrom wk z from → s + 3 < z .n → Row wk z s 3
-keys-row s y h = record { working = y .working; below = h }
+  module _ (h : s < z .n) {b : Bool} (e : b ≡ hasKey z (tb .working) key s) where
+    pub keying-hit : b ≡ true → s ≡ first (keyed z tb key) from (z .n - from)
+    keying-hit t = seeking-hit (y .seeking) h (keyed-is z tb key s (y .on h) e) t
 
-module _ (p : ℕ → Bool) (n from : ℕ) where
-  Says : ℕ → Found → Type 0
-  Says t (At k) = k ≡ first p from (n - from)
-  Says t Nothing = Seeking p n from t
+    module _ {t : ℕ} (f : b ≡ false) (q : t ≡ leadsTo (tb .transient) (linkAt z s) (s + 1) (z .n)) where
+      next-on : Next (listed z (tb .transient) (jobName key)) (z .n) (s + 1) t
+      next-on = next-listed z (tb .transient) (jobName key) (y .on h) h q
 
-  looked : (i t : ℕ) (f : Found) → Seeking p n from i → i < n → (Seeking p n from (i + 1) → Says t f) → Says t (cond (p i) (At i) f)
-  unfolding Says
-  looked i t f y h on = ⊎-elim (λ (a : p i ≡ true). rw a (seeking-hit y h refl a)) (λ (b : p i ≡ false). rw b (on (seeking-next y h refl b))) (cases (p i))
+      pub keying-next : Keying z tb key from t
+      keying-next =
+          record {
+            seeking = seeking-to (seeking-next (y .seeking) h (keyed-is z tb key s (y .on h) e) f) next-on (λ j n. keyed-listed z tb key j n);
+            on = next-on .passes;
+          }
 
-  both : (t u : ℕ) (f g : Found) → Says t f → (Seeking p n from t → Says u g) → Says u (whereFound f At g)
-  unfolding Says
-  both t u (At k) g x on = x
-  both t u Nothing g x on = on x
+pub keying-less : {z : Sizes} {tb : Table} {key from s : ℕ} → Keying z tb key from s → s < z .n → {t : ℕ} → t ≡ leadsTo (tb .transient) (linkAt z s) (s + 1) (z .n) → z .n - t < z .n - s
+keying-less {z = z} {tb = tb} {key = key} y h q = omega (arith, next-listed z (tb .transient) (jobName key) (y .on h) h q .above)
 
-  two-says : (s : ℕ) → Seeking p n from s → s + 1 < n → Says (s + 2) (firstOfTwo p s)
-  unfolding firstOfTwo Says
-  two-says s y h =
-      let i : s + 1 + 1 ≡ s + 2 = omega arith in
-      looked s (s + 2) (cond (p (s + 1)) (At (s + 1)) Nothing) y (omega arith) (λ a. looked (s + 1) (s + 2) Nothing a h (λ b. rw i at b))
+-- ---- the first slot with the key, and the one that follows a slot
+module _ {wk tr : List ℕ} {z : Sizes} (y : Shaped wk tr z) (key : ℕ) {name : Name} (m : name ≡ jobName key) {t : ℕ} (q : t ≡ leadsTo tr (bucketAt z (bucketOf (z .n) name)) 0 (z .n)) where
+  first-on : Next (listed z tr (jobName key)) (z .n) 0 t
+  first-on = rw m at (first-listed z tr name q)
 
-  module _ {s : ℕ} (y : Seeking p n from s) (h : s + 3 < n) where
-    four-says : Says (s + 4) (firstOfFour p s)
-    unfolding firstOfFour
-    four-says =
-        let i : s + 2 + 2 ≡ s + 4 = omega arith in
-        both (s + 2) (s + 4) (firstOfTwo p s) (firstOfTwo p (s + 2)) (two-says s y (omega arith)) (λ a. rw i at (two-says (s + 2) a (omega arith)))
+  pub first-chained : OnChain wk tr z key t
+  first-chained = record { shaped = y; top = first-on .top; on = first-on .passes }
 
-    module _ {f : Found} (e : f ≡ firstOfFour p s) where
-      pub four-hit : {k : ℕ} → f ≡ At k → k ≡ first p from (n - from)
-      unfolding Says
-      four-hit q = rw (← e, q) at four-says
+  pub first-key : {r : ℕ} → r ≡ first (keyed z (table wk tr) key) t (z .n - t) → r ≡ first (keyed z (table wk tr) key) 0 (z .n - 0)
+  first-key e =
+      e ∙ sym (seeking-to (seeking-start (keyed z (table wk tr) key) (omega arith)) first-on (λ j n. keyed-listed z (table wk tr) key j n) .same)
 
-      pub four-on : f ≡ Nothing → Seeking p n from (s + 4)
-      unfolding Says
-      four-on q = rw (← e, q) at four-says
+module _ {wk tr : List ℕ} {z : Sizes} {key s t : ℕ} (y : Keyed wk tr z key s) (q : t ≡ leadsTo tr (linkAt z s) (s + 1) (z .n)) where
+  after-on : Next (listed z tr (jobName key)) (z .n) (s + 1) t
+  after-on = next-listed z tr (jobName key) (y .on) (y .within) q
 
--- what is left is asked for
-pub keys-rest : {p : ℕ → Bool} {wk : List ℕ} {z : Sizes} {from s : ℕ} → KeysFrom wk z from → Seeking p (z .n) from s → KeysFrom wk z s
-keys-rest y u = record { working = y .working; top = u .low }
+  pub next-chained : OnChain wk tr z key t
+  next-chained = record { shaped = y .shaped; top = after-on .top; on = after-on .passes }
 
-pub seek-rest : {p : ℕ → Bool} {n from s r : ℕ} → Seeking p n from s → r ≡ first p s (n - s) → r ≡ first p from (n - from)
-seek-rest y e = e ∙ sym (y .same)
+  pub next-key : {r : ℕ} → r ≡ first (keyed z (table wk tr) key) t (z .n - t) → r ≡ first (keyed z (table wk tr) key) (s + 1) (z .n - (s + 1))
+  next-key e =
+      e ∙ sym (seeking-to (seeking-start (keyed z (table wk tr) key) (omega (arith, y .within))) after-on (λ j n. keyed-listed z (table wk tr) key j n) .same)
 
-pub ruleset keys = (keys-few, keys-slot, key-is, keys-start, seeking-next, seeking-hit, seeking-end)
-
-pub ruleset fours = (row-few, row-first, row-last, row-half, row-rest, two-first, two-second, two-none, four-half, four-rest)
-
-pub ruleset walks = (keys-few, keys-start, keys-row, four-hit, four-on, keys-rest, seek-rest)
+pub ruleset keys = (key-is, shaped-chained, keying-start, keying-slot, keying-end, keying-hit, keying-next, keying-less, first-chained, first-key, next-chained, next-key)

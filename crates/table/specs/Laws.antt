@@ -15,16 +15,17 @@ use Rattle.search.specs.Ring.{firstRound, round-found}
 use Rattle.search.specs.declared.Found.{Found}
 use Rattle.search.specs.declared.Found.the-variants.{At, Nothing}
 use Rattle.image.specs.declared.header.Header.{Header}
-use Rattle.image.specs.Layout.{contentsAt, header, contents, keyAt}
+use Rattle.image.specs.Layout.{contentsAt, isFilled, header, contents, keyAt}
 use Rattle.image.specs.Line.{headerLine, contentsLine, stored, storeLine}
 use Rattle.image.specs.declared.name.Name.{Name}
+use Rattle.image.specs.Name.{nameAt}
 use Rattle.image.specs.Requires.{Slot, slot-header, slot-after}
 use Rattle.image.specs.Laws.{length-store, header-same, header-other, contents-past-header, front-past-header, contents-same, contents-other, header-past-contents, front-past-contents}
 use Rattle.transient.specs.declared.sizes.Sizes.{Sizes}
 use Rattle.transient.specs.Layout.{note, lastAt}
 use Rattle.transient.specs.Store.{Table}
 use Rattle.table.specs.declared.find.Lookup.the-variants.{Later, Live}
-use Rattle.table.specs.Find.{liveAt, liveSlot, lookup, freeAt, room}
+use Rattle.table.specs.Find.{liveOn, liveSlot, lookup, freeAt, room}
 use Rattle.table.specs.Fill.{filledSlot}
 use Rattle.table.specs.Requires.{newer, lookedUp, setValue}
 
@@ -75,6 +76,11 @@ module _ (z : Sizes) (l : List ℕ) (s : ℕ) (value : List ℕ) where
       let k = getD l (contentsAt (z .n) (z .w) s) 0 in
       ap (λ (x : List ℕ). setValue z x s value) (sym (set-getD l (contentsAt (z .n) (z .w) s) 0)) ∙ key-then-value k
 
+-- ---- a slot that a look-up may find: filled, under the name
+pub record Called (z : Sizes) (wk : List ℕ) (name : Name) (s : ℕ) : Type 0 where
+  pub filled : isFilled (header wk s) ≡ true
+  pub named : nameAt wk (z .n) (z .w) s ≡ name
+
 -- ---- a slot found is one of the table
 module _ (z : Sizes) (tb : Table) where
   pub room-below : (k s : ℕ) → note lastAt (tb .transient) < z .n → room z tb k ≡ At s → s < z .n
@@ -89,15 +95,15 @@ module _ (z : Sizes) (tb : Table) where
 
   pub live-below : (name : Name) (s : ℕ) → liveSlot z tb name ≡ At s → s < z .n
   unfolding liveSlot
-  live-below name s e = found-first (liveAt z tb name) (z .n) e .below
+  live-below name s e = found-first (liveOn z tb name) (z .n) e .below
 
   pub lookup-below : (name : Name) (e s : ℕ) → lookup z tb name e ≡ Live s → s < z .n
   unfolding lookup newer
   lookup-below name e s h =
       ⊎-elim
-      (λ (y : newer z (tb .working) name e ≡ true). let q : Later ≡ Live s = rw y at h in let x : _≡_ {A = ℕ} 0 1 = cc in absurd (omega arith))
-      (λ (y : newer z (tb .working) name e ≡ false). let q : lookedUp (liveSlot z tb name) ≡ Live s = rw y at h in go (liveSlot z tb name) refl q)
-      (cases (newer z (tb .working) name e))
+      (λ (y : newer z tb name e ≡ true). let q : Later ≡ Live s = rw y at h in let x : _≡_ {A = ℕ} 0 1 = cc in absurd (omega arith))
+      (λ (y : newer z tb name e ≡ false). let q : lookedUp (liveSlot z tb name) ≡ Live s = rw y at h in go (liveSlot z tb name) refl q)
+      (cases (newer z tb name e))
     where
       go : (f : Found) → liveSlot z tb name ≡ f → lookedUp f ≡ Live s → s < z .n
       go (At u) q r = let x : u ≡ s = cc in let b : u < z .n = live-below name u q in omega arith

@@ -2,7 +2,7 @@
 -- what contracts inside and laws name: the next slot with a key, parts of a look-up, and a value stored.
 use Prim.Native.Nat.{ℕ, _+_, _*_, _-_, _≤_, _<_}
 use mathlib.Core.Path.{_≡_}
-use mathlib.Core.Bool.{Bool, cond}
+use mathlib.Core.Bool.{Bool, true, cond, _&&_}
 use mathlib.Core.List.{List}
 use lib.ListN.{length}
 use lib.Dec.{ltb, eqb}
@@ -11,17 +11,17 @@ use Rattle.search.specs.First.{first, whereFound}
 use Rattle.search.specs.Some.{anyOf}
 use Rattle.search.specs.Ring.{ringSlot, ring-below}
 use Rattle.search.specs.declared.Found.{Found}
-use Rattle.search.specs.declared.Found.the-variants.{At, Nothing}
 use Rattle.image.specs.Layout.{mostSlots, headerWords, contentsAt, keyAt}
 use Rattle.image.specs.Line.{storeLine}
 use Rattle.image.specs.declared.name.Name.{Name}
 use Rattle.image.specs.Name.{jobName}
-use Rattle.image.specs.Requires.{Sized, Slot, HeaderFits, slot, slot-header, slot-after}
+use Rattle.image.specs.Requires.{Slot, HeaderFits, slot, slot-header, slot-after}
 use Rattle.transient.specs.declared.sizes.Sizes.{Sizes}
+use Rattle.transient.specs.Store.{Table}
 use Rattle.transient.specs.Requires.{Shaped}
 use Rattle.table.specs.declared.find.Lookup.{Lookup}
 use Rattle.table.specs.declared.find.Lookup.the-variants.{Live, Absent}
-use Rattle.table.specs.Find.{newerAt}
+use Rattle.table.specs.Find.{listed, newerOn}
 
 -- ---- round the table
 -- the slot that follows s
@@ -53,33 +53,33 @@ jobAt z wk s = jobName (keyAt wk (z .n) (z .w) s)
 unfoldable pub hasKey : Sizes → List ℕ → ℕ → ℕ → Bool
 hasKey z wk key s = eqb (keyAt wk (z .n) (z .w) s) key
 
--- the first of two indices that passes a test
-unfoldable pub firstOfTwo : (ℕ → Bool) → ℕ → Found
-firstOfTwo p s = cond (p s) (At s) (cond (p (s + 1)) (At (s + 1)) Nothing)
+-- on the chain of its job, with the key
+unfoldable pub keyed : Sizes → Table → ℕ → ℕ → Bool
+keyed z tb key s = listed z (tb .transient) (jobName key) s && hasKey z (tb .working) key s
 
-unfoldable pub firstOfFour : (ℕ → Bool) → ℕ → Found
-firstOfFour p s = whereFound (firstOfTwo p s) At (firstOfTwo p (s + 2))
+-- the first such slot from one on, or n
+abbrev pub keyFrom : Sizes → Table → ℕ → ℕ → ℕ
+keyFrom z tb key from = first (keyed z tb key) from (z .n - from)
 
--- the first slot from one on that has the key, or n
-abbrev pub keyFrom : Sizes → List ℕ → ℕ → ℕ → ℕ
-keyFrom z wk key from = first (hasKey z wk key) from (z .n - from)
-
--- the slots from s to s + k
-pub record Row (wk : List ℕ) (z : Sizes) (s k : ℕ) : Type 0 where
-  pub working : Sized wk (z .n) (z .w)
-  pub below : s + k < z .n
-
-pub record KeysFrom (wk : List ℕ) (z : Sizes) (from : ℕ) : Type 0 where
-  pub working : Sized wk (z .n) (z .w)
+-- a slot on the chain of a job, or n
+pub record OnChain (wk tr : List ℕ) (z : Sizes) (key from : ℕ) : Type 0 where
+  pub shaped : Shaped wk tr z
   pub top : from ≤ z .n
+  pub on : from < z .n → listed z tr (jobName key) from ≡ true
+
+-- a slot on it
+pub record Keyed (wk tr : List ℕ) (z : Sizes) (key s : ℕ) : Type 0 where
+  pub shaped : Shaped wk tr z
+  pub within : s < z .n
+  pub on : listed z tr (jobName key) s ≡ true
 
 -- the first one up to s, where `live` is the first one below s, or n
 unfoldable pub sooner : Bool → ℕ → ℕ → ℕ → ℕ
 sooner b n s live = cond b (cond (ltb live n) live s) live
 
 -- ---- a look-up: refusal 9, and the live slot
-unfoldable pub newer : Sizes → List ℕ → Name → ℕ → Bool
-newer z wk name e = anyOf (newerAt z wk name e) (z .n)
+unfoldable pub newer : Sizes → Table → Name → ℕ → Bool
+newer z tb name e = anyOf (newerOn z tb name e) (z .n)
 
 abbrev pub lookedUp : Found → Lookup
 lookedUp f = whereFound f Live Absent

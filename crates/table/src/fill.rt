@@ -1,5 +1,6 @@
 // How a slot of the working table is filled, and what the notes then say.
 use image::header::Header;
+use image::name::Name;
 use transient::sizes::Sizes;
 ghost use mathlib.Core.Path.{_≡_};
 ghost use Prim.Native.Nat.{_+_, _-_, _≤_};
@@ -9,7 +10,7 @@ ghost use Rattle.image.specs.Layout.{contentsAt};
 ghost use Rattle.image.specs.Line.{stored};
 ghost use Rattle.image.specs.Requires.{Slot};
 ghost use Rattle.transient.specs.Requires.{NoteOf};
-ghost use Rattle.table.specs.Fill.{filledSlot, taken, joined};
+ghost use Rattle.table.specs.Fill.{filledSlot, joined, taken, freed};
 ghost use Rattle.table.specs.Requires.{SlotValue, setValue};
 
 fn store_zeros(dst: &mut [u32], b: usize, k: usize)
@@ -60,21 +61,30 @@ pub fn fill_zeros(img: &mut [u32], z: Sizes, s: usize, h: Header, key: u32)
     image::header::set_header(img, z.n, s, h);
 }
 
-// What the notes say once slot s is taken in epoch e.
-pub fn note_taken(transient: &mut [u32], z: Sizes, e: u32, s: usize)
-    requires { ⌜ NoteOf (now transient) z s ⌝ }
-    ensures { λ _. ⌜ now (transient .exit) ≡ taken z (now (transient .entry)) e s ⌝ }
-{
-    transient::notes::set_last(transient, image::shape::narrow(s));
-    transient::notes::set_retired(transient, z, s, 0);
-    transient::notes::set_waiting(transient, z, e, s);
-}
-
-// A slot freed at once: not retired, and waiting in e.
-pub fn note_freed(transient: &mut [u32], z: Sizes, e: u32, s: usize)
+// Slot s is not retired, and waits in e.
+fn join(transient: &mut [u32], z: Sizes, e: u32, s: usize)
     requires { ⌜ NoteOf (now transient) z s ⌝ }
     ensures { λ _. ⌜ now (transient .exit) ≡ joined z (now (transient .entry)) e s ⌝ }
 {
     transient::notes::set_retired(transient, z, s, 0);
     transient::notes::set_waiting(transient, z, e, s);
+}
+
+// What the notes say once slot s is taken in epoch e, for a name.
+pub fn note_taken(transient: &mut [u32], z: Sizes, e: u32, s: usize, name: Name)
+    requires { ⌜ NoteOf (now transient) z s ⌝ }
+    ensures { λ _. ⌜ now (transient .exit) ≡ taken z (now (transient .entry)) e s name ⌝ }
+{
+    transient::notes::set_last(transient, image::shape::narrow(s));
+    join(transient, z, e, s);
+    index::insert(transient, z, name, s);
+}
+
+// .. and once the slot of that name is freed at once.
+pub fn note_freed(transient: &mut [u32], z: Sizes, e: u32, s: usize, name: Name)
+    requires { ⌜ NoteOf (now transient) z s ⌝ }
+    ensures { λ _. ⌜ now (transient .exit) ≡ freed z (now (transient .entry)) e s name ⌝ }
+{
+    join(transient, z, e, s);
+    index::remove(transient, z, name, s);
 }

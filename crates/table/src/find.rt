@@ -1,5 +1,6 @@
 // Searches over the table.
 use image::header::Header;
+use image::name::Name;
 use search::Found;
 use transient::sizes::Sizes;
 ghost use mathlib.Core.Path.{_≡_};
@@ -10,7 +11,7 @@ ghost use Rattle.image.specs.Requires.{Slot, HeaderFits};
 ghost use Rattle.transient.specs.Store.{table};
 ghost use Rattle.transient.specs.Requires.{Shaped, ShapedSlot, Entered};
 ghost use Rattle.table.specs.Find.{newerAt, liveAt, liveSlot, lookup, freeAt, room};
-ghost use Rattle.table.specs.Requires.{jobAt, hasKey, firstOfTwo, firstOfFour, keyFrom, Row, KeysFrom, Ring, RingStart, nextSlot, sooner};
+ghost use Rattle.table.specs.Requires.{jobAt, hasKey, keyFrom, OnChain, Keyed, Ring, RingStart, nextSlot, sooner};
 
 // What a key finds for an operation: a later epoch has it, a live slot holds it, or neither.
 pub enum Lookup {
@@ -26,58 +27,37 @@ fn has_key(working: &[u32], z: Sizes, key: u32, s: usize) -> bool
     image::contents::key_at(working, z.n, z.w, s) == key
 }
 
-// The first of two slots that has the key.
-fn key_of_two(working: &[u32], z: Sizes, key: u32, s: usize) -> Found
-    requires { ⌜ Row (now working) z s 1 ⌝ }
-    ensures { λ r. ⌜ r ≡ firstOfTwo (hasKey z (now (working .entry)) key) s ⌝ }
-{
-    if has_key(working, z, key, s) {
-        return Found::At(s);
-    }
-    if has_key(working, z, key, s + 1) {
-        return Found::At(s + 1);
-    }
-    Found::Nothing
-}
-
-fn key_of_four(working: &[u32], z: Sizes, key: u32, s: usize) -> Found
-    requires { ⌜ Row (now working) z s 3 ⌝ }
-    ensures { λ r. ⌜ r ≡ firstOfFour (hasKey z (now (working .entry)) key) s ⌝ }
-{
-    match key_of_two(working, z, key, s) {
-        Found::At(k) => Found::At(k),
-        Found::Nothing => key_of_two(working, z, key, s + 2),
-    }
-}
-
-// The first slot from one on that has the key, or n.
-fn key_rest(working: &[u32], z: Sizes, key: u32, from: usize) -> usize
-    requires { ⌜ KeysFrom (now working) z from ⌝ }
-    ensures { λ r. ⌜ r ≡ keyFrom z (now (working .entry)) key from ⌝ }
+// The first slot with the key on the chain of its job, from slot `from` of it on, or n.
+fn key_on(working: &[u32], transient: &[u32], z: Sizes, key: u32, from: usize) -> usize
+    requires { ⌜ OnChain (now working) (now transient) z key from ⌝ }
+    ensures { λ r. ⌜ r ≡ keyFrom z (table (now (working .entry)) (now (transient .entry))) key from ⌝ }
 {
     let mut s = from;
     while s < z.n {
         if has_key(working, z, key, s) {
             return s;
         }
-        s += 1;
+        s = index::next_on(transient, z, s);
     }
     s
 }
 
-// The same, with four slots in a round.
-fn key_from(working: &[u32], z: Sizes, key: u32, from: usize) -> usize
-    requires { ⌜ KeysFrom (now working) z from ⌝ }
-    ensures { λ r. ⌜ r ≡ keyFrom z (now (working .entry)) key from ⌝ }
+// The first of all.
+fn key_first(working: &[u32], transient: &[u32], z: Sizes, key: u32) -> usize
+    requires { ⌜ Shaped (now working) (now transient) z ⌝ }
+    ensures { λ r. ⌜ r ≡ keyFrom z (table (now (working .entry)) (now (transient .entry))) key 0 ⌝ }
 {
-    let mut s = from;
-    while s + 3 < z.n {
-        if let Found::At(k) = key_of_four(working, z, key, s) {
-            return k;
-        }
-        s += 4;
-    }
-    key_rest(working, z, key, s)
+    let first = index::first_on(transient, z, Name::job(key));
+    key_on(working, transient, z, key, first)
+}
+
+// The one that follows slot s.
+fn key_next(working: &[u32], transient: &[u32], z: Sizes, key: u32, s: usize) -> usize
+    requires { ⌜ Keyed (now working) (now transient) z key s ⌝ }
+    ensures { λ r. ⌜ r ≡ keyFrom z (table (now (working .entry)) (now (transient .entry))) key (s + 1) ⌝ }
+{
+    let next = index::next_on(transient, z, s);
+    key_on(working, transient, z, key, next)
 }
 
 // Does the slot have the name of the job of its key? Once the key is known the board is left to look at.
@@ -125,12 +105,12 @@ pub fn find_live(working: &[u32], transient: &[u32], z: Sizes, key: u32) -> Foun
     requires { ⌜ Shaped (now working) (now transient) z ⌝ }
     ensures { λ r. ⌜ r ≡ liveSlot z (table (now (working .entry)) (now (transient .entry))) (jobName key) ⌝ }
 {
-    let mut s = key_from(working, z, key, 0);
+    let mut s = key_first(working, transient, z, key);
     while s < z.n {
         if live_at(working, transient, z, s) {
             return Found::At(s);
         }
-        s = key_from(working, z, key, s + 1);
+        s = key_next(working, transient, z, key, s);
     }
     Found::Nothing
 }
@@ -147,7 +127,7 @@ fn live_up_to(working: &[u32], transient: &[u32], z: Sizes, s: usize, live: usiz
     }
 }
 
-// Both questions in one walk up the table, from one slot with the key to the next.
+// Both questions in one walk up the chain, from one slot with the key to the next.
 pub fn look_up(working: &[u32], transient: &[u32], z: Sizes, key: u32, e: u32) -> Lookup
     requires { ⌜ Shaped (now working) (now transient) z ⌝ }
     ensures { λ r. ⌜ r ≡ lookup z (table (now (working .entry)) (now (transient .entry))) (jobName key) e ⌝ }
@@ -156,13 +136,13 @@ pub fn look_up(working: &[u32], transient: &[u32], z: Sizes, key: u32, e: u32) -
     let working = &working[..];
     let transient = &transient[..];
     let mut live = z.n;
-    let mut s = key_from(working, z, key, 0);
+    let mut s = key_first(working, transient, z, key);
     while s < z.n {
         if newer_at(working, z, e, s) {
             return Lookup::Later;
         }
         live = live_up_to(working, transient, z, s, live);
-        s = key_from(working, z, key, s + 1);
+        s = key_next(working, transient, z, key, s);
     }
     if live < z.n {
         Lookup::Live(live)

@@ -28,7 +28,7 @@ use Rattle.transient.specs.Passed.{sizing, sizes-t}
 
 -- ---- sizes
 -- a length too small wraps to a number that is too large
-pub threads-wrap : (len n : ℕ) {d : ℕ} → n ≤ mostSlots → d < 2 ^ 64 → (d + (headWords + 3 * n + 1)) % 2 ^ 64 ≡ len → ltb d 16 ≡ threadsOk len n
+pub threads-wrap : (len n : ℕ) {d : ℕ} → n ≤ mostSlots → d < 2 ^ 64 → (d + (headWords + 5 * n + 1)) % 2 ^ 64 ≡ len → ltb d 16 ≡ threadsOk len n
 unfolding threadsOk
 threads-wrap len n {d} h f e =
     ⊎-elim

@@ -13,7 +13,7 @@ use native.Mathlib.Decide.{ℕ-discrete, decLt}
 use Rattle.search.specs.Bools.{cases, and-left}
 use Rattle.image.specs.Laws.{length-stored, stored-outside, stored-inside}
 use Rattle.transient.specs.declared.sizes.Sizes.{Sizes}
-use Rattle.transient.specs.Layout.{slotsAt, lastAt, nextUidAt, nextOrderAt, phaseAt, placeAt, headWords, openAt, retiredAt, listBase, waitingAt, threadsOf, threadsOk, note, openEpoch, retiredIn, isWaiting, setNote, setOpen, setRetired, setWaiting, setPlace, emptied, blank}
+use Rattle.transient.specs.Layout.{slotsAt, lastAt, nextUidAt, nextOrderAt, phaseAt, placeAt, headWords, openAt, retiredAt, listBase, waitingAt, indexAt, threadsOf, threadsOk, note, openEpoch, retiredIn, isWaiting, setNote, setOpen, setRetired, setWaiting, setPlace, emptied, blank}
 use Rattle.transient.specs.Requires.{Notes}
 
 -- ---- the two lists
@@ -147,6 +147,42 @@ head-then x y =
 pub slot-then : {z : Sizes} {a b c : List ℕ} {m : ℕ} → SlotKept z a b m → SlotKept z b c m → SlotKept z a c m
 slot-then x y = record { retired = y .retired ∙ x .retired; waiting = λ d. y .waiting d ∙ x .waiting d }
 
+-- the index
+pub record IndexKept (z : Sizes) (tr tr′ : List ℕ) : Type 0 where
+  pub words : (j : ℕ) → indexAt z ≤ j → getD tr′ j 0 ≡ getD tr j 0
+
+pub index-then : {z : Sizes} {a b c : List ℕ} → IndexKept z a b → IndexKept z b c → IndexKept z a c
+index-then x y = record { words = λ j h. y .words j h ∙ x .words j h }
+
+-- all but the index
+pub record IndexOnly (z : Sizes) (tr tr′ : List ℕ) : Type 0 where
+  pub long : length tr′ ≡ length tr
+  pub words : (j : ℕ) → j < indexAt z → getD tr′ j 0 ≡ getD tr j 0
+
+module _ {z : Sizes} {tr tr′ : List ℕ} (o : IndexOnly z tr tr′) where
+  pub beside-front : FrontKept z tr tr′
+  beside-front =
+      record {
+        head =
+            record {
+              long = o .long;
+              opens = λ u h. o .words (openAt u) (omega arith);
+              phase = o .words phaseAt (omega arith);
+              slot = o .words placeAt (omega arith);
+            };
+        noted = o .words slotsAt (omega arith);
+        last = o .words lastAt (omega arith);
+        uid = o .words nextUidAt (omega arith);
+        order = o .words nextOrderAt (omega arith);
+      }
+
+  pub beside-slots : (m : ℕ) → m < z .n → SlotKept z tr tr′ m
+  beside-slots m h =
+      record {
+        retired = o .words (retiredAt z m) (omega arith);
+        waiting = λ d. flag-same z tr tr′ d m (o .words (waitingAt z d m) (omega (arith, base-top (z .n) d)));
+      }
+
 module _ {tr tr′ : List ℕ} {at k : ℕ} (o : Only tr tr′ at k) where
   -- what is written before the place or among the slots leaves the head
   head-kept : (z : Sizes) → (at + k ≤ phaseAt) ⊎ (headWords + z .t ≤ at) → HeadKept z tr tr′
@@ -174,6 +210,10 @@ module _ {tr tr′ : List ℕ} {at k : ℕ} (o : Only tr tr′ at k) where
   slot-kept z h m =
       record { retired = o .words (retiredAt z m) (inr (omega arith)); waiting = λ d. flag-same z tr tr′ d m (o .words (waitingAt z d m) (inr (omega arith))) }
 
+  -- what is written before the index leaves it
+  index-kept : (z : Sizes) → at + k ≤ indexAt z → IndexKept z tr tr′
+  index-kept z h = record { words = λ j i. o .words j (inr (omega arith)) }
+
   uid-kept : (at + k ≤ nextUidAt) ⊎ (nextUidAt < at) → note nextUidAt tr′ ≡ note nextUidAt tr
   uid-kept c = o .words nextUidAt (⊎-elim (λ q. inr q) (λ q. inl q) c)
 
@@ -188,6 +228,9 @@ module _ (tr : List ℕ) (z : Sizes) where
 
     pub last-slots : (m : ℕ) → SlotKept z tr (setNote lastAt tr s) m
     last-slots = slot-kept (last-only tr s) z (omega arith)
+
+    pub last-index : IndexKept z tr (setNote lastAt tr s)
+    last-index = index-kept (last-only tr s) z (omega arith)
 
     pub last-noted : note slotsAt (setNote lastAt tr s) ≡ note slotsAt tr
     last-noted = last-only tr s .words slotsAt (inl (omega arith))
@@ -205,6 +248,9 @@ module _ (tr : List ℕ) (z : Sizes) where
     pub uid-slots : (m : ℕ) → SlotKept z tr (setNote nextUidAt tr u) m
     uid-slots = slot-kept (uid-only tr u) z (omega arith)
 
+    pub uid-index : IndexKept z tr (setNote nextUidAt tr u)
+    uid-index = index-kept (uid-only tr u) z (omega arith)
+
     pub uid-noted : note slotsAt (setNote nextUidAt tr u) ≡ note slotsAt tr
     uid-noted = uid-only tr u .words slotsAt (inl (omega arith))
 
@@ -221,12 +267,18 @@ module _ (tr : List ℕ) (z : Sizes) where
     pub order-slots : (m : ℕ) → SlotKept z tr (setNote nextOrderAt tr x) m
     order-slots = slot-kept (order-only tr x) z (omega arith)
 
+    pub order-index : IndexKept z tr (setNote nextOrderAt tr x)
+    order-index = index-kept (order-only tr x) z (omega arith)
+
     pub order-uid : note nextUidAt (setNote nextOrderAt tr x) ≡ note nextUidAt tr
     order-uid = uid-kept (order-only tr x) (inr (omega arith))
 
   module _ (thread e : ℕ) where
     pub open-slots : thread < z .t → (m : ℕ) → SlotKept z tr (setOpen tr thread e) m
     open-slots h = slot-kept (open-only tr thread e) z (omega arith)
+
+    pub open-index : thread < z .t → IndexKept z tr (setOpen tr thread e)
+    open-index h = index-kept (open-only tr thread e) z (omega arith)
 
     pub open-long : length (setOpen tr thread e) ≡ length tr
     open-long = open-only tr thread e .long
@@ -253,6 +305,9 @@ module _ (tr : List ℕ) (z : Sizes) where
     pub place-slots : (m : ℕ) → SlotKept z tr (setPlace tr phase slot) m
     place-slots = slot-kept (place-only tr phase slot) z (omega arith)
 
+    pub place-index : IndexKept z tr (setPlace tr phase slot)
+    place-index = index-kept (place-only tr phase slot) z (omega arith)
+
     pub place-noted : note slotsAt (setPlace tr phase slot) ≡ note slotsAt tr
     place-noted = place-only tr phase slot .words slotsAt (inl (omega arith))
 
@@ -269,13 +324,22 @@ module _ (tr : List ℕ) (z : Sizes) where
     pub retired-front : FrontKept z tr (setRetired z tr s e)
     retired-front = front-kept (retired-only tr z s e) z (omega arith)
 
+    pub retired-index : s < z .n → IndexKept z tr (setRetired z tr s e)
+    retired-index h = index-kept (retired-only tr z s e) z (omega arith)
+
   module _ (e s : ℕ) where
     pub waiting-front : FrontKept z tr (setWaiting z tr e s)
     waiting-front = front-kept (waiting-only tr z e s) z (omega arith)
 
+    pub waiting-index : s < z .n → IndexKept z tr (setWaiting z tr e s)
+    waiting-index h = index-kept (waiting-only tr z e s) z (omega (arith, base-top (z .n) e))
+
   module _ (e : ℕ) where
     pub emptied-front : FrontKept z tr (emptied z tr e)
     emptied-front = front-kept (list-only tr z e) z (omega arith)
+
+    pub emptied-index : IndexKept z tr (emptied z tr e)
+    emptied-index = index-kept (list-only tr z e) z (omega (arith, base-top (z .n) e))
 
 -- ---- blank notes
 pub zeros-at : (k j : ℕ) → _≡_ {A = ℕ} (getD (replicate k 0) j 0) 0
@@ -325,6 +389,9 @@ module _ (len n u x : ℕ) where
 
   pub blank-retired : (z : Sizes) (s : ℕ) → retiredIn z (blank len n u x) s ≡ 0
   blank-retired z s = blank-zeros (retiredAt z s) (omega arith)
+
+  pub blank-index : (z : Sizes) (j : ℕ) → indexAt z ≤ j → getD (blank len n u x) j 0 ≡ 0
+  blank-index z j h = blank-zeros j (omega arith)
 
 -- ---- each writer's own note
 module _ {tr : List ℕ} {z : Sizes} (y : Notes tr z) where

@@ -1,7 +1,7 @@
 -- Where each word of the notes stands, what is read there and what is written. 01: "The notes are lost at a cut: for each of
 -- T threads (1 to 16) its open epoch or none; which payloads are retired, and in which epoch; a waiting list of slots for each
--- recent epoch; the last slot taken; the next uid; the place an advance has reached." 02, No. 3: the next order number. They also say
--- their N.
+-- recent epoch; the last slot taken; the next uid; the place an advance has reached." 02, No. 3: the next order number. No. 6: "keep a
+-- hashed index in the notes". They also say their N.
 use Prim.Native.Nat.{ℕ, _+_, _*_, _-_, _%_}
 use mathlib.Core.Bool.{Bool, not, cond, _&&_}
 use mathlib.Core.List.{List}
@@ -10,7 +10,7 @@ use lib.Dec.{leb, eqb}
 use Rattle.image.specs.Line.{stored}
 use Rattle.transient.specs.declared.sizes.Sizes.{Sizes}
 
--- ---- where words stand: a head, then the threads, then the slots
+-- ---- where words stand: a head, then the threads, the slots, and the index
 abbrev pub slotsAt : ℕ
 slotsAt = 0
 
@@ -45,12 +45,22 @@ listBase n e = cond (eqb (e % 2) 0) 0 n
 abbrev pub waitingAt : Sizes → ℕ → ℕ → ℕ
 waitingAt z e s = headWords + z .t + z .n + listBase (z .n) e + s
 
+-- the index: for each of N buckets the link to its chain's first slot, then each slot's link to the next one
+abbrev pub indexAt : Sizes → ℕ
+indexAt z = headWords + z .t + 3 * z .n
+
+abbrev pub bucketAt : Sizes → ℕ → ℕ
+bucketAt z b = headWords + z .t + 3 * z .n + b
+
+abbrev pub linkAt : Sizes → ℕ → ℕ
+linkAt z s = headWords + z .t + 4 * z .n + s
+
 abbrev pub transientWords : ℕ → ℕ → ℕ
-transientWords n t = headWords + t + 3 * n
+transientWords n t = headWords + t + 5 * n
 
 -- how many threads a length leaves for n slots
 abbrev pub threadsOf : ℕ → ℕ → ℕ
-threadsOf len n = len - (headWords + 3 * n)
+threadsOf len n = len - (headWords + 5 * n)
 
 -- "T threads (1 to 16)"
 unfoldable pub threadsOk : ℕ → ℕ → Bool

@@ -17,9 +17,14 @@ pub record InReach (n t : ℕ) : Type 0 where
   pub slots-hi : n ≤ mostSlots
   pub threads-hi : t ≤ 16
 
+-- one of N buckets or slots, in the index
+pub record InIndex (z : Sizes) (s : ℕ) : Type 0 where
+  pub sizes : InReach (z .n) (z .t)
+  pub within : s < z .n
+
 pub record ThreadRoom (len n : ℕ) : Type 0 where
   pub slots-hi : n ≤ mostSlots
-  pub room : headWords + 3 * n ≤ len
+  pub room : headWords + 5 * n ≤ len
 
 -- notes to be set, for n slots
 pub record Blanking (tr : List ℕ) (n : ℕ) : Type 0 where

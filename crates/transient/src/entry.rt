@@ -129,6 +129,10 @@ fn clocks_fit(working: &[u32], persistent: &[u32], transient: &[u32], t: usize) 
 pub fn check(working: &[u32], persistent: &[u32], transient: &[u32]) -> Check
     ensures { λ r. ⌜ r ≡ entryCheck (store (now (working .entry)) (now (persistent .entry)) (now (transient .entry))) ⌝ }
 {
+    // Lent anew, the slices come in registers; one that is only handed on comes through memory.
+    let working = &working[..];
+    let persistent = &persistent[..];
+    let transient = &transient[..];
     if sizes_fit(working, persistent, transient) {
         let t = crate::notes::threads(transient.len(), image::shape::wide(working[0]));
         if clocks_fit(working, persistent, transient, t) {

@@ -5,10 +5,10 @@ ghost use Prim.Native.Nat.{_+_, _≤_, _<_};
 ghost use lib.ListN.{length, replicate};
 ghost use Rattle.image.specs.Layout.{mostSlots};
 ghost use Rattle.image.specs.Line.{stored};
-ghost use Rattle.transient.specs.Layout.{headWords, transientWords, threadsOf, threadsOk, blank, note, slotsAt, lastAt, nextUidAt, nextOrderAt, phaseAt, placeAt, openEpoch, retiredIn, isWaiting, setNote, setOpen, setRetired, setWaiting, setPlace, emptied};
-ghost use Rattle.transient.specs.Requires.{Based, InReach, ThreadRoom, Blanking, Notes, NoteOf, ThreadOf};
+ghost use Rattle.transient.specs.Layout.{headWords, transientWords, threadsOf, threadsOk, blank, note, slotsAt, lastAt, nextUidAt, nextOrderAt, phaseAt, placeAt, openEpoch, retiredIn, isWaiting, setNote, setOpen, setRetired, setWaiting, setPlace, emptied, bucketAt, linkAt};
+ghost use Rattle.transient.specs.Requires.{Based, InReach, InIndex, ThreadRoom, Blanking, Notes, NoteOf, ThreadOf};
 
-// Where the words of the head stand, and how many these are; then come the threads, then the slots.
+// Where the words of the head stand, and how many these are; then come the threads, the slots, and the index.
 const SLOTS: usize = 0;
 
 const LAST: usize = 1;
@@ -28,7 +28,7 @@ pub fn threads_ok(len: usize, n: usize) -> bool
     requires { ⌜ n ≤ mostSlots ⌝ }
     ensures { λ r. ⌜ r ≡ threadsOk len n ⌝ }
 {
-    let least = HEAD + 3 * n + 1;
+    let least = HEAD + 5 * n + 1;
     std::num::wrapping_sub_usize(len, least) < 16
 }
 
@@ -37,7 +37,7 @@ pub fn transient_words(n: usize, t: usize) -> usize
     requires { ⌜ InReach n t ⌝ }
     ensures { λ r. ⌜ r ≡ transientWords n t ⌝ }
 {
-    HEAD + t + 3 * n
+    HEAD + t + 5 * n
 }
 
 // How many threads a slice of this length has, for `n` slots.
@@ -45,7 +45,7 @@ pub fn threads(len: usize, n: usize) -> usize
     requires { ⌜ ThreadRoom len n ⌝ }
     ensures { λ r. ⌜ r ≡ threadsOf len n ⌝ }
 {
-    len - (HEAD + 3 * n)
+    len - (HEAD + 5 * n)
 }
 
 // For n slots, with nothing open, retired, waiting or underway.
@@ -181,6 +181,22 @@ pub fn set_place(transient: &mut [u32], phase: u32, slot: u32)
 {
     transient[PHASE] = phase;
     transient[PLACE] = slot;
+}
+
+// Where the index has the link to the first slot of a bucket's chain.
+pub fn bucket_at(z: Sizes, b: usize) -> usize
+    requires { ⌜ InIndex z b ⌝ }
+    ensures { λ r. ⌜ r ≡ bucketAt z b ⌝ }
+{
+    HEAD + z.t + 3 * z.n + b
+}
+
+// Where it has slot s's link to the next one.
+pub fn link_at(z: Sizes, s: usize) -> usize
+    requires { ⌜ InIndex z s ⌝ }
+    ensures { λ r. ⌜ r ≡ linkAt z s ⌝ }
+{
+    HEAD + z.t + 4 * z.n + s
 }
 
 // The `k` words from `b` on become 0.

@@ -11,7 +11,6 @@ finish-spec =
     (λ c κs. search (needs, steps))
     (λ c κs. search (needs, steps))
     (λ c κs. search (needs, steps))
-    (λ c κs. search (needs, steps))
     (λ c. search (needs, steps))
     (λ c. search (needs, steps))
     (λ c. search (needs, steps)))

@@ -11,6 +11,8 @@ reclaim-spec =
     (λ c κs. search (needs, lines, steps))
     (λ c κs. search (needs, lines, steps))
     (λ c κs. search (needs, lines, steps))
+    (λ c κs. search (needs, lines, steps))
+    (λ c κs. search (needs, lines, steps))
     (λ c. search (needs, lines, steps))
     (λ c. search (needs, lines, steps))
     (λ c. search (needs, lines, steps))

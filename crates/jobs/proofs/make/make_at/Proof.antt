@@ -1,4 +1,4 @@
--- `make_at`: each way out is a law.
+-- `make_at`: each need is a law.
 use borrow.Author.Needs.{needs}
 use Rattle.jobs.specs.Exits.{laws}
 use Rattle.jobs.proofs.make.make_at.Statement.{statement}

@@ -1,4 +1,4 @@
--- `note_superseded`: each way out is a law.
+-- `note_superseded`: each need is a law.
 use borrow.Author.Needs.{needs}
 use Rattle.jobs.specs.Exits.{laws}
 use Rattle.jobs.proofs.supersede.note_superseded.Statement.{statement}

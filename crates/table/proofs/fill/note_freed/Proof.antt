@@ -1,4 +1,4 @@
--- `note_freed`: each way out is a law.
+-- `note_freed`: each need is a law.
 use borrow.Author.Needs.{needs}
 use Rattle.table.specs.Exits.{fills}
 use Rattle.table.proofs.fill.note_freed.Statement.{statement}

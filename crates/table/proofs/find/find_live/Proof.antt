@@ -1,4 +1,4 @@
--- `find_live`: from one slot with the key to the next (`Finding`).
+-- `find_live`: from one slot of the chain with the key to the next (`Finding`).
 use borrow.Author.Needs.{needs}
 use Rattle.table.specs.Exits.{finds, Finding}
 use Prim.Native.Nat.{_-_}
@@ -21,7 +21,6 @@ find-live-spec =
     (λ c κs. search (needs, finds))
     (λ c. search (needs, finds))
     (λ c κs. search (needs, finds))
-    (λ c. search (needs, finds))
     (λ c. search (needs, finds))
     (λ c κs. search (needs, finds))
     (λ c. search (needs, finds))
