@@ -34,3 +34,5 @@ pub mod Stores
 pub mod Tearing
 pub mod Theorem
 pub mod Ends
+pub mod StaysIndexed
+pub mod Walks
