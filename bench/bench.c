@@ -20,9 +20,9 @@ enum { FIRST_WORD = 3 }; /* of an image: the first of a header */
 static const struct calls sides[] = {CALLS(board), CALLS(byhand)};
 static const char *const side_names[] = {"library", "C"};
 
-/* A store, and the key that the measured call takes. */
+/* A store, and the key and thread that the measured call takes. */
 struct bed {
-    uint32_t slots, key;
+    uint32_t slots, key, thread;
     size_t image, notes;
     uint32_t *working, *persistent, *transient;
 };
@@ -201,16 +201,17 @@ static void full_cut(struct bed *b)
 
 static uint64_t do_new(const struct calls *c, struct bed *b)
 {
-    return c->new(BED(b), 0, b->slots + b->key, value, VALUE_WORDS);
+    return c->new(BED(b), b->thread, b->slots + b->key, value, VALUE_WORDS);
 }
 
 static uint64_t do_set(const struct calls *c, struct bed *b)
 {
-    return c->set(BED(b), 0, b->key, other_value, VALUE_WORDS);
+    return c->set(BED(b), b->thread, b->key, other_value, VALUE_WORDS);
 }
 
-static uint64_t do_delete(const struct calls *c, struct bed *b) { return c->delete(BED(b), 0, b->key); }
+static uint64_t do_delete(const struct calls *c, struct bed *b) { return c->delete(BED(b), b->thread, b->key); }
 static uint64_t do_read(const struct calls *c, struct bed *b) { return c->read(BED(b), 1, b->key); }
+static uint64_t do_read_odd(const struct calls *c, struct bed *b) { return c->read(BED(b), 1, 2 * b->key - 1); }
 static uint64_t do_read_absent(const struct calls *c, struct bed *b) { return c->read(BED(b), 1, b->slots + b->key); }
 
 /* The changes of a round, by a call each; the answer is that of a batch. */
@@ -229,11 +230,15 @@ static uint64_t do_calls(const struct calls *c, struct bed *b)
 
 static uint64_t do_batch(const struct calls *c, struct bed *b)
 {
-    return c->batch(BED(b), 0, *round_list, round_changes * (1 + WORDS));
+    return c->batch(BED(b), b->thread, *round_list, round_changes * (1 + WORDS));
 }
 
-static uint64_t do_append(const struct calls *c, struct bed *b) { return c->append(BED(b), 0, value, VALUE_WORDS); }
-static uint64_t do_take(const struct calls *c, struct bed *b) { return c->take(BED(b), 0); }
+static uint64_t do_append(const struct calls *c, struct bed *b)
+{
+    return c->append(BED(b), b->thread, value, VALUE_WORDS);
+}
+
+static uint64_t do_take(const struct calls *c, struct bed *b) { return c->take(BED(b), b->thread); }
 static uint64_t do_look(const struct calls *c, struct bed *b) { return c->look(BED(b), 1); }
 
 static uint64_t do_advance(const struct calls *c, struct bed *b)
@@ -284,6 +289,7 @@ static const struct measure {
     {"40 changes, one batch, per change", round_of_all, do_batch, true, UINT64_MAX},
     {"read, present", half_full, do_read, false, UINT64_MAX},
     {"read, absent", half_full, do_read_absent, false, BOARD_REFUSED + BOARD_NO_JOB},
+    {"read, board full", full, do_read_odd, false, UINT64_MAX},
     {"append", half_queue_open, do_append, false, UINT64_MAX},
     {"take", half_queue_open, do_take, false, 0},
     {"look", half_queue, do_look, false, UINT64_MAX},
@@ -438,21 +444,81 @@ static void compare_images(void)
     printf("random images: %d accepted, %d with a bad slot, %d with a duplicate\n", accepted, bad, duplicate);
 }
 
-/* Each side once, its instructions dumped under a name of their own. */
+/* ---- Random runs on small boards, with damage to the index in every other: what measured stores never show ---- */
+
+static uint64_t do_begin(const struct calls *c, struct bed *b) { return c->begin(BED(b), b->thread); }
+static uint64_t do_end(const struct calls *c, struct bed *b) { return c->end(BED(b), b->thread); }
+static uint64_t do_step(const struct calls *c, struct bed *b) { return c->advance(BED(b)); }
+
+static uint64_t do_make(const struct calls *c, struct bed *b)
+{
+    return c->new(BED(b), b->thread, b->key, value, VALUE_WORDS);
+}
+
+/* Some call, or a recovery, by both sides with the same arguments. */
+static void compare_call(struct bed beds[2])
+{
+    static uint64_t (*const some[])(const struct calls *, struct bed *) = {
+        do_begin, do_begin, do_end, do_end, do_make, do_make, do_set, do_set, do_delete, do_delete, do_read, do_append,
+        do_take, do_look, do_step, do_step, do_step, do_step, do_batch, do_sync};
+    struct measure call = {"a call of a random run", NULL, some[below(sizeof some / sizeof *some)], false, UINT64_MAX};
+    uint32_t keys = beds[0].slots, key = 1 + below(keys), thread = below(3);
+    uint64_t replies[2];
+    if (below(100) == 0)
+        call.run = do_recover;
+    round_changes = below(7);
+    for (uint32_t i = 0; i < round_changes; i++)
+        memcpy(round_list[i], (uint32_t[]){BOARD_NEW + below(3), 1 + below(keys)}, 2 * sizeof key);
+    for (int side = 0; side < 2; side++) {
+        beds[side].key = key;
+        beds[side].thread = thread;
+        replies[side] = call.run(&sides[side], &beds[side]);
+    }
+    if (replies[0] != replies[1] || !same_bed(&beds[0], &beds[1]))
+        compare(&call, &beds[0], &beds[1], replies[0], replies[1]);
+}
+
+static void compare_runs(void)
+{
+    int calls = 0, damaged = 0;
+    for (uint32_t slots = 2; slots <= 40; slots++)
+        for (int damage = 0; damage < 2; damage++) {
+            struct bed beds[2] = {new_bed(slots), new_bed(slots)};
+            format_bed(&beds[0]);
+            copy_bed(&beds[1], &beds[0]);
+            for (int i = 0; i < 2000; i++, calls++) {
+                if (damage && below(10) == 0) {
+                    size_t at = beds[0].notes - 1 - below(2 * slots); /* the index stands last */
+                    beds[0].transient[at] = beds[1].transient[at] = below(slots + 3);
+                    damaged++;
+                }
+                compare_call(beds);
+            }
+            free(beds[0].working);
+            free(beds[1].working);
+        }
+    printf("random runs: %d calls, the index damaged before %d of them\n", calls, damaged);
+}
+
+/* Each side on sixteen copies, its instructions dumped under a name of their own. */
 static void count(const struct measure *m, uint32_t slots)
 {
     char name[128];
     struct bed base = new_bed(slots), bed = new_bed(slots);
+    int copies = slots == 1024 && m->prepare == full_cut ? 1 : 16;
     m->prepare(&base);
     for (int side = 0; side < 2; side++) {
-        copy_bed(&bed, &base);
-        bed.key = key_of_copy(slots, 5);
         const struct calls *c = &sides[side];
-        CALLGRIND_TOGGLE_COLLECT;
-        uint64_t reply = m->run(c, &bed);
-        CALLGRIND_TOGGLE_COLLECT;
-        snprintf(name, sizeof name, "%s|%" PRIu32 "|%s|%" PRIu64, m->name, slots, side_names[side],
-                 m->per_reply ? reply : 1);
+        uint64_t units = 0;
+        for (int i = 0; i < copies; i++) {
+            copy_bed(&bed, &base);
+            bed.key = key_of_copy(slots, i);
+            CALLGRIND_TOGGLE_COLLECT;
+            uint64_t reply = m->run(c, &bed);
+            CALLGRIND_TOGGLE_COLLECT;
+            units += m->per_reply ? reply : 1;
+        }
+        snprintf(name, sizeof name, "%s|%" PRIu32 "|%s|%" PRIu64, m->name, slots, side_names[side], units);
         CALLGRIND_DUMP_STATS_AT(name);
     }
     free(base.working);
@@ -481,6 +547,7 @@ int main(int arguments, char **argument)
         }
     if (quick) {
         compare_images();
+        compare_runs();
         printf("%d calls at %d sizes, %" PRIu64 " comparisons, library and C agree\n", MEASURES, SIZES, compared);
     }
     return 0;

@@ -1,5 +1,6 @@
-/* Changes made durable, one at a time and 40 together: the board against SQLite and LMDB, on a memory-backed file system
-   and on the one that this program stands on. Each makes the same changes durable and holds the same jobs at the end.
+/* Changes made durable, one at a time and 40 together: the board against SQLite and LMDB, on a memory-backed file
+   system and on the one that this program stands on; and reads, in memory. Each makes the same changes durable and
+   holds the same jobs at the end.
    Usage: durable --quick | --times */
 
 #include "board.h"
@@ -20,9 +21,9 @@
 #include <sys/vfs.h>
 #include <unistd.h>
 
-enum { WORDS = 4, VALUE_WORDS = WORDS - 1, THREADS = 1, ROUNDS = 25, CHANGES = 60, TOGETHER = 40 };
-enum { NEW, SET, DELETE, READ, BATCH, KINDS };
-static const char *const kind_names[KINDS] = {"new", "set", "delete", "read", "40 sets together"};
+enum { WORDS = 4, VALUE_WORDS = WORDS - 1, THREADS = 1, ROUNDS = 25, CHANGES = 60, TOGETHER = 40, READS = 2048 };
+enum { NEW, SET, DELETE, BATCH, KINDS };
+static const char *const kind_names[KINDS] = {"new", "set", "delete", "40 sets together"};
 
 /* What can be done with each of them. A change, or a batch, is durable when it returns. */
 struct keeper {
@@ -190,7 +191,7 @@ static bool board_has(uint32_t key, uint32_t *value)
 /* ---- SQLite: a write-ahead log, flushed at every commit; with locks, or for one process alone ---- */
 
 static sqlite3 *db;
-enum { BEGIN = BATCH, COMMIT, STATEMENTS };
+enum { SELECT = BATCH, BEGIN, COMMIT, STATEMENTS };
 static sqlite3_stmt *statements[STATEMENTS];
 
 static void sqlite_run(const char *text)
@@ -260,7 +261,7 @@ static void sqlite_batch(int kind, uint32_t first, uint32_t count, uint32_t chan
 
 static bool sqlite_has(uint32_t key, uint32_t *value)
 {
-    sqlite3_stmt *statement = statements[READ];
+    sqlite3_stmt *statement = statements[SELECT];
     sqlite3_bind_int64(statement, 4, key);
     bool found = sqlite3_step(statement) == SQLITE_ROW;
     for (int i = 0; found && i < VALUE_WORDS; i++)
@@ -344,17 +345,34 @@ static void lmdb_batch(int kind, uint32_t first, uint32_t count, uint32_t change
     lmdb(mdb_txn_commit(txn));
 }
 
-static bool lmdb_has(uint32_t key, uint32_t *value)
+static bool lmdb_get(MDB_txn *txn, uint32_t key, uint32_t *value)
 {
     MDB_val name = {sizeof key, &key}, data;
-    lmdb(mdb_txn_renew(reader));
-    int result = mdb_get(reader, dbi, &name, &data);
+    int result = mdb_get(txn, dbi, &name, &data);
     if (result == 0)
         memcpy(value, data.mv_data, VALUE_WORDS * 4);
     else if (result != MDB_NOTFOUND)
         lmdb(result);
-    mdb_txn_reset(reader);
     return result == 0;
+}
+
+/* By one read-only transaction, which is renewed for each read. */
+static bool lmdb_has(uint32_t key, uint32_t *value)
+{
+    lmdb(mdb_txn_renew(reader));
+    bool found = lmdb_get(reader, key, value);
+    mdb_txn_reset(reader);
+    return found;
+}
+
+/* By a new one for each read; a thread has one at a time, and the other is reset. */
+static bool lmdb_has_anew(uint32_t key, uint32_t *value)
+{
+    MDB_txn *txn;
+    lmdb(mdb_txn_begin(env, NULL, MDB_RDONLY, &txn));
+    bool found = lmdb_get(txn, key, value);
+    mdb_txn_abort(txn);
+    return found;
 }
 
 static void lmdb_close(void)
@@ -383,7 +401,7 @@ static const struct place {
 
 static double took[KINDS][CHANGES];
 
-/* New, set, read and delete of a job beside those that stay, timed. */
+/* New, set and delete of a job beside those that stay, timed. */
 static void change_once(const struct keeper *keeper, uint32_t jobs, int i)
 {
     uint32_t value[VALUE_WORDS], key = jobs + 1 + (uint32_t)i, old = 1 + (uint32_t)i * (jobs / 8 + 1) % jobs;
@@ -401,7 +419,6 @@ static void change_once(const struct keeper *keeper, uint32_t jobs, int i)
     double deleted = seconds();
     took[NEW][i] = made - start;
     took[SET][i] = set - ready;
-    took[READ][i] = read - set;
     took[DELETE][i] = deleted - read;
     if (!found || value[1] != old * 31 + (2 + (uint32_t)i) * 7 + 1)
         fail(keeper->name, "a value that is not the one set");
@@ -479,6 +496,57 @@ static void compare(const struct place *p, uint32_t slots, bool timed)
     }
 }
 
+/* ---- Reads alone ---- */
+
+static const struct reader {
+    const struct keeper *keeper;
+    bool (*read)(uint32_t key, uint32_t *value);
+} readers[] = {
+    {&keepers[0], board_has}, {&keepers[2], sqlite_has}, {&keepers[3], sqlite_has},
+    {&keepers[4], lmdb_has},  {&keepers[4], lmdb_has_anew},
+};
+enum { READERS = sizeof readers / sizeof *readers };
+
+/* The time of a read: jobs in turn, each far from the one before it, the value copied out. */
+static double time_reads(const struct reader *r, uint32_t jobs)
+{
+    uint32_t value[VALUE_WORDS] = {0}, key = 0, sum = 0, expected = 0;
+    double start = seconds();
+    for (int i = 0; i < READS; i++) {
+        key += jobs / 2 + 1;
+        key -= key > jobs ? jobs : 0;
+        if (!r->read(key, value))
+            fail(r->keeper->name, "it does not hold a job that was made");
+        sum += value[0];
+        expected += key * 31;
+    }
+    double took = seconds() - start;
+    if (sum != expected)
+        fail(r->keeper->name, "a value that is not the one made");
+    return took / READS;
+}
+
+static void compare_reads(uint32_t slots, bool timed)
+{
+    static double cost[READERS][ROUNDS];
+    int rounds = timed ? ROUNDS : 1;
+    for (int round = 0; round < rounds; round++)
+        for (int turn = 0; turn < READERS; turn++) {
+            int r = (round + turn) % READERS;
+            readers[r].keeper->open(slots);
+            readers[r].keeper->batch(NEW, 1, slots / 2, 0);
+            time_reads(&readers[r], slots / 2);
+            cost[r][round] = time_reads(&readers[r], slots / 2);
+            readers[r].keeper->close();
+        }
+    if (!timed)
+        return;
+    printf("read\t%" PRIu32, slots);
+    for (int r = 0; r < READERS; r++)
+        printf("\t%.1f", 1e9 * median(cost[r], rounds));
+    printf("\n");
+}
+
 /* A directory of its own for the files. */
 static void make_directory(const char *where)
 {
@@ -502,6 +570,8 @@ static void compare_at(const struct place *p, const char *where, bool timed)
         if (timed)
             fprintf(stderr, "  %s, %" PRIu32 " slots\n", p->name, *slots);
         compare(p, *slots, timed);
+        if (p == &memory)
+            compare_reads(*slots, timed);
         fflush(stdout);
     }
     remove_directory();
@@ -525,6 +595,6 @@ int main(int arguments, char **argument)
     compare_at(&memory, "/dev/shm", timed);
     compare_at(&disk, dirname(argument[0]), timed);
     if (!timed)
-        printf("board, SQLite and LMDB hold the same jobs after the same changes\n");
+        printf("board, SQLite and LMDB hold the same jobs after the same changes, and read the same values\n");
     return 0;
 }
