@@ -1,6 +1,7 @@
-/* Stores of other sizes, through the header. Notes of other sizes that are just as long, with 3 slots and 4 threads as
+/* Stores of other sizes, through the header. Notes of other sizes that are just as long, with 3 slots and 6 threads as
    with 4 slots and 1 thread, and notes with a next uid or order number out of range: every call but format and recover
-   declines and changes nothing. Images of the old layout, three words a header: every call does.
+   declines and changes nothing. Images of the old layout, three words a header, and notes of a wrong length, as they were
+   without an index: every call does.
    Usage: sizes */
 
 #include "store.h"
@@ -54,6 +55,16 @@ static void each_declines(struct store *s, const struct store *before)
     DECLINES(board_sync(STORE(s)), wide);
     DECLINES(board_write_back(STORE(s), 0), BOARD_SIZES);
 #undef DECLINES
+}
+
+/* Format and recover too. */
+static void every_call_declines(struct store *s, const struct store *before)
+{
+    each_declines(s, before);
+    same("recover", board_recover(STORE(s)), BOARD_REFUSED + BOARD_SIZES);
+    same("recover changes nothing", same_store(s, before), true);
+    same("format", board_format(STORE(s), s->slots, s->words), BOARD_SIZES);
+    same("format changes nothing", same_store(s, before), true);
 }
 
 static void first_job(struct store *s)
@@ -125,11 +136,7 @@ static void of_the_old_layout(uint32_t slots)
     old_image(s.persistent, slots);
     memcpy(s.transient, fresh.transient, s.notes * sizeof *s.transient);
     copy_store(&before, &s);
-    each_declines(&s, &before);
-    same("recover", board_recover(STORE(&s)), wide);
-    same("recover changes nothing", same_store(&s, &before), true);
-    same("format", board_format(STORE(&s), slots, WORDS), BOARD_SIZES);
-    same("format changes nothing", same_store(&s, &before), true);
+    every_call_declines(&s, &before);
     same("the clock", board_clock((const uint8_t *)s.persistent, s.image * sizeof *s.persistent), wide);
     same("the survivors", board_survivors((const uint8_t *)s.persistent, s.image * sizeof *s.persistent), wide);
     free_store(&fresh);
@@ -137,16 +144,46 @@ static void of_the_old_layout(uint32_t slots)
     free_store(&before);
 }
 
+/* All is in order but the length of the notes. */
+static void with_notes_as_long_as(uint32_t slots, uint32_t threads, size_t notes)
+{
+    struct store s = new_store(slots, WORDS, threads), before = new_store(slots, WORDS, threads);
+    uint32_t *const kept = s.transient;
+    first_job(&s);
+    s.transient = block(notes);
+    memcpy(s.transient, kept, (notes < s.notes ? notes : s.notes) * sizeof *kept);
+    free(before.transient);
+    before.transient = block(notes);
+    s.notes = before.notes = notes;
+    copy_store(&before, &s);
+    every_call_declines(&s, &before);
+    free(kept);
+    free_store(&s);
+    free_store(&before);
+}
+
+/* Without an index, with half of one, a word short of one thread, and a word more than 16 threads need. */
+static void with_wrong_lengths(uint32_t slots, uint32_t threads)
+{
+    with_notes_as_long_as(slots, threads, 6 + threads + 3 * slots);
+    with_notes_as_long_as(slots, threads, 6 + threads + 4 * slots);
+    with_notes_as_long_as(slots, threads, 6 + 5 * slots);
+    with_notes_as_long_as(slots, threads, 6 + 16 + 5 * slots + 1);
+}
+
 int main(void)
 {
+    with_wrong_lengths(2, 1);
+    with_wrong_lengths(16, 4);
+    with_wrong_lengths(1024, 16);
     of_the_old_layout(2);
     of_the_old_layout(5);
     of_the_old_layout(1024);
     with_note_out_of_range(NEXT_UID);
     with_note_out_of_range(NEXT_ORDER);
     for (int used = 0; used < 2; used++) {
-        with_notes_of(3, 4, 4, 1, used);
-        with_notes_of(4, 1, 3, 4, used);
+        with_notes_of(3, 6, 4, 1, used);
+        with_notes_of(4, 1, 3, 6, used);
     }
     printf("%zu answers, %zu wrong\n", calls, failed);
     return failed > 0;

@@ -1,9 +1,11 @@
 //! The compiled library as its C exports show it, compared with the simulator.
 
+pub mod damaged;
 mod exports;
 mod lent;
 pub mod library;
 pub mod smallest;
+pub mod watch;
 
 /// The numbers a program was started with.
 pub fn numbers<const COUNT: usize>(usage: &str) -> [u64; COUNT] {

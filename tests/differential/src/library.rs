@@ -2,7 +2,9 @@
 
 use crate::exports::*;
 use crate::lent::Lent;
-use simulator::calls::{simulate, Call};
+use crate::watch;
+use simulator::calls::{simulate, Call, DONE};
+use simulator::index::is_right;
 use simulator::store::Store;
 use std::ffi::CStr;
 
@@ -17,11 +19,10 @@ pub struct Slices {
     tl: usize,
 }
 
-/// Carries the call out with the library and with the simulator. The reply is given where both agree in it and
-/// in every word of the three slices, else what differs.
-pub fn compare(store: &mut Store, call: &Call, library: fn(Slices, &Call) -> u64) -> Result<u64, String> {
-    let before = store.clone();
-    let [mut working, mut persistent, mut transient] = store.slices().map(|slice| Lent::new(slice));
+/// Carries the call out with the library, on a copy of the store between guard words: its reply, and what it left.
+pub fn carried_out(store: &Store, call: &Call, library: fn(Slices, &Call) -> u64) -> Result<(u64, Store), String> {
+    let [mut working, mut persistent, mut transient] =
+        [&store.working, &store.persistent, &store.transient].map(|slice| Lent::new(slice));
     let slices = Slices {
         w: working.start(),
         wl: store.working.len(),
@@ -31,17 +32,40 @@ pub fn compare(store: &mut Store, call: &Call, library: fn(Slices, &Call) -> u64
         tl: store.transient.len(),
     };
     let reply = library(slices, call);
-    let beside = || format!("a word beside the slices was overwritten, by {call:?} on {before:?}");
+    watch::returned();
+    let beside = || format!("a word beside the slices was overwritten, by {call:?} on {store:?}");
     let after = Store {
         working: working.taken_back().ok_or_else(beside)?,
         persistent: persistent.taken_back().ok_or_else(beside)?,
         transient: transient.taken_back().ok_or_else(beside)?,
     };
+    Ok((reply, after))
+}
+
+/// Carries the call out with the library and with the simulator. The reply is given where both agree in it and in every
+/// word of the three slices, else what differs. Where the index was right it has to be right again.
+pub fn compare(store: &mut Store, call: &Call, library: fn(Slices, &Call) -> u64) -> Result<u64, String> {
+    let before = store.clone();
+    let (reply, after) = carried_out(&before, call, library)?;
     let wanted = simulate(store, call);
-    if reply == wanted && after == *store {
-        return Ok(reply);
+    if reply != wanted || after != *store {
+        return Err(format!(
+            "{call:?} replies {reply}, wanted {wanted}\nbefore {before:?}\nwanted {store:?}\nafter  {after:?}"
+        ));
     }
-    Err(format!("{call:?} replies {reply}, wanted {wanted}\nbefore {before:?}\nwanted {store:?}\nafter  {after:?}"))
+    if !is_right(&after) && has_to_be_right(&before, call, reply) {
+        return Err(format!("{call:?} leaves a wrong index\nbefore {before:?}\nafter  {after:?}"));
+    }
+    Ok(reply)
+}
+
+/// Format makes an index, recovery another one, and all other calls keep theirs.
+fn has_to_be_right(before: &Store, call: &Call, reply: u64) -> bool {
+    match call {
+        Call::Format { .. } if reply == 0 => true,
+        Call::Recover if reply == DONE => true,
+        _ => is_right(before),
+    }
 }
 
 /// The library's answers to the server's two questions: clock and survivors.

@@ -1,6 +1,7 @@
 //! Format and the calls on jobs.
 
 use crate::image::{job, Header, Name, Sizes, ALLOC, CLOCK, DELETE, FIRST_CLOCK, JOBS, LARGEST, UPDATE};
+use crate::index;
 use crate::store::{Entry, Refusal, Store};
 use crate::transient::{Layout, LAST_TAKEN, NEXT_UID};
 
@@ -96,8 +97,11 @@ pub fn remove(store: &mut Store, entry: &Entry, epoch: u32, old: usize) -> Resul
     if header.epoch == epoch {
         // "Delete of an ALLOC labelled e frees the working slot at once. An UPDATE labelled e becomes
         // DELETE in its own slot, contents kept."
-        let left = if header.kind == ALLOC { Header::FREE } else { anti };
-        entry.sizes.set_header(&mut store.working, old, left);
+        let is_freed = header.kind == ALLOC;
+        if is_freed {
+            leave_index(store, entry, old);
+        }
+        entry.sizes.set_header(&mut store.working, old, if is_freed { Header::FREE } else { anti });
         entry.join_waiting(store, epoch, old);
         return Ok(());
     }
@@ -190,4 +194,11 @@ pub fn fill(store: &mut Store, entry: &Entry, slot: usize, header: Header, key: 
     store.transient[entry.layout.retired(slot)] = 0;
     store.transient[LAST_TAKEN] = slot as u32;
     entry.join_waiting(store, header.epoch, slot);
+    index::insert(&mut store.transient, entry.layout, (header.board, key), slot);
+}
+
+/// A slot that is about to be freed.
+pub fn leave_index(store: &mut Store, entry: &Entry, slot: usize) {
+    let name = entry.sizes.name(&store.working, slot);
+    index::remove(&mut store.transient, entry.layout, name, slot);
 }

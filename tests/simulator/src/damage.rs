@@ -1,6 +1,7 @@
 //! Images and stores that were not left by a run: some that are in order, and many that are not.
 
 use crate::image::{Header, Sizes, CLOCK, FIRST_CLOCK, JOBS, LARGEST, QUEUE};
+use crate::index_damage::right_index;
 use crate::random::Random;
 use crate::store::Store;
 use crate::transient::{Layout, LAST_TAKEN, NOTED_SLOTS, PHASE, PLACE_SLOT};
@@ -258,8 +259,14 @@ pub fn any_image(random: &mut Random, sizes: Sizes) -> Vec<u32> {
 
 /// A copy with a few words replaced and now and then a wrong length; or a copy in which all is sound but the notes,
 /// which say another N, alone or with the T that it leaves for their length; or one with marks on other boards, or torn.
+/// Its index is right for its working image, where the store is not refused at entry.
 pub fn damaged_store(random: &mut Random, store: &Store) -> Store {
-    let mut store = store.clone();
+    let mut store = damaged_words(random, store.clone());
+    right_index(random, &mut store);
+    store
+}
+
+fn damaged_words(random: &mut Random, mut store: Store) -> Store {
     let other_notes = notes_of_other_sizes(&store);
     if random.chance(10) && !other_notes.is_empty() {
         store.transient = random.pick(&other_notes);
@@ -332,7 +339,7 @@ pub fn notes_of_other_sizes(store: &Store) -> Vec<Vec<u32>> {
 }
 
 /// A store that passes the check at entry and is otherwise arbitrary: headers of any kind, images that have
-/// nothing to do with each other, and notes that have nothing to do with either.
+/// nothing to do with each other, and notes that have nothing to do with either, but for the index of the working image.
 pub fn wild_store(random: &mut Random, slots: u32) -> Store {
     let sizes = Sizes::new(slots, random.between(2, 4)).expect("these sizes are in range");
     let layout = Layout::new(sizes.slots, random.below(3) + 1).expect("these sizes are in range");
@@ -350,7 +357,10 @@ pub fn wild_store(random: &mut Random, slots: u32) -> Store {
         transient[layout.waiting(0, slot)] = random.pick(&[0, 1, 2, u32::MAX]);
         transient[layout.waiting(1, slot)] = random.pick(&[0, 0, 1, 0x8000_0000]);
     }
-    Store { working: wild_image(random, sizes, clock), persistent: wild_image(random, sizes, clock), transient }
+    let [working, persistent] = [(); 2].map(|()| wild_image(random, sizes, clock));
+    let mut store = Store { working, persistent, transient };
+    right_index(random, &mut store);
+    store
 }
 
 /// Half of these images are calm: no label is above an epoch that can be open, so that queue calls get past 9. Where

@@ -1,5 +1,6 @@
 //! Advance, sync and the word written back.
 
+use crate::changes::leave_index;
 use crate::image::{Header, CLOCK, LARGEST, PREFIX};
 use crate::store::{Entry, Refusal, Store};
 use crate::transient::{PHASE, PLACE_SLOT};
@@ -121,6 +122,7 @@ fn is_reclaimable(store: &Store, entry: &Entry, slot: usize) -> bool {
 
 /// "becomes free in both images"; 02, No. 4: "A call that changes both images changes working first."
 fn reclaim(store: &mut Store, entry: &Entry, slot: usize) {
+    leave_index(store, entry, slot);
     entry.sizes.set_header(&mut store.working, slot, Header::FREE);
     entry.sizes.set_header(&mut store.persistent, slot, Header::FREE);
     store.transient[entry.layout.retired(slot)] = 0;

@@ -2,8 +2,11 @@
 //! they say so the requests that change it, 02. Every call is total: any words, lengths and arguments give its answer.
 //!
 //! No code is shared with the library, but where 01 is silent its choices are followed, as each word is compared: the
-//! layout of the notes (`transient`), the phases of the place of an advance and where each step leaves it (`epochs`), and
-//! the readings of 01 in docs/DECISIONS.md. A choice that is wrong is wrong on both sides, and no comparison shows it.
+//! layout of the notes (`transient`), the buckets and links of the index (`index`), the phases of the place of an advance and
+//! where each step leaves it (`epochs`), and the readings of 01 in docs/DECISIONS.md. A choice that is wrong is wrong on both
+//! sides, and no comparison shows it. What the library looks up in the index is found here by a walk over the table (02, No.
+//! 6: "each reply and each image equals what the walk gives").
+//!
 //! The plain board (`reference`) is from 01 and 02 alone, but for what it keeps of the operations that a sync made safe;
 //! what a cut within a store can leave (`torn`) is from 02, No. 4, alone.
 
@@ -18,6 +21,9 @@ pub mod epochs;
 pub mod generator;
 pub mod headcount;
 pub mod image;
+pub mod index;
+pub mod index_cases;
+pub mod index_damage;
 pub mod lister;
 pub mod lists;
 pub mod queue;

@@ -1,6 +1,7 @@
 //! Recovery, and what it takes an image to mean.
 
 use crate::image::{clock_in_range, Header, Name, Sizes, CLOCK, LARGEST, QUEUE};
+use crate::index;
 use crate::store::{Refusal, Store};
 use crate::transient::Layout;
 use std::collections::BTreeMap;
@@ -69,6 +70,7 @@ fn has_equals<T: Ord>(mut items: Vec<T>) -> bool {
 
 /// "each call checks, frees the next such mark, leaves working and notes alone and replies "went on". The call
 /// that finds none to free replies "done"; only there does working become a copy and are the notes set."
+/// 02, No. 6: the index "is rebuilt by recovery"
 pub fn recover(store: &mut Store) -> Result<Progress, Refusal> {
     let sizes = Sizes::of(&store.persistent).ok_or(1u32)?;
     let layout = Layout::of(store.transient.len(), sizes.slots).ok_or(1u32)?;
@@ -83,6 +85,7 @@ pub fn recover(store: &mut Store) -> Result<Progress, Refusal> {
     store.working = store.persistent.clone();
     let next_order = next_order(&surviving_entries(&store.persistent)?);
     store.transient = layout.blank(next_uid(&store.persistent, &accepted), next_order);
+    index::rebuild(&mut store.transient, layout, sizes, &store.working);
     Ok(Progress::Done)
 }
 

@@ -1,6 +1,7 @@
-//! The layout of the notes: 6 + T + 3N words. They say their N; T is what their length leaves.
+//! The layout of the notes: 6 + T + 5N words. They say their N; T is what their length leaves.
 
 use crate::image::LARGEST;
+use std::ops::Range;
 
 /// N, "the last slot taken", "the next uid", the next order number (02, No. 3), and the place of an advance: phase and
 /// slot.
@@ -26,11 +27,11 @@ impl Layout {
     }
 
     pub fn of(length: usize, slots: usize) -> Option<Layout> {
-        Layout::new(slots, length.checked_sub(PREFIX + 3 * slots)?)
+        Layout::new(slots, length.checked_sub(PREFIX + 5 * slots)?)
     }
 
     pub fn words(self) -> usize {
-        PREFIX + self.threads + 3 * self.slots
+        PREFIX + self.threads + 5 * self.slots
     }
 
     pub fn open(self, thread: usize) -> usize {
@@ -47,7 +48,22 @@ impl Layout {
         PREFIX + self.threads + list * self.slots + slot
     }
 
-    /// "Nothing is open, retired, waiting or underway", and the search begins at slot 0.
+    /// The word of the index that leads to the first slot of a bucket (02, No. 6).
+    pub fn bucket(self, bucket: usize) -> usize {
+        PREFIX + self.threads + 3 * self.slots + bucket
+    }
+
+    /// The word of the index that leads on from a slot.
+    pub fn link(self, slot: usize) -> usize {
+        PREFIX + self.threads + 4 * self.slots + slot
+    }
+
+    /// All words of the index.
+    pub fn index(self) -> Range<usize> {
+        self.bucket(0)..self.words()
+    }
+
+    /// "Nothing is open, retired, waiting or underway", the search begins at slot 0, and the index holds no slot.
     pub fn blank(self, next_uid: u32, next_order: u32) -> Vec<u32> {
         let mut transient = vec![0; self.words()];
         transient[NOTED_SLOTS] = self.slots as u32;

@@ -1,16 +1,21 @@
 //! Every call and the lengths, on honest, damaged and wild stores; some of the damaged have slots on other boards, some
-//! have marks of which only some words are left.
+//! have marks of which only some words are left. All of these have a right index; others have a damaged one and are right in
+//! all else.
 //! Usage: calls SEED COUNT
 
+use differential::damaged::Misled;
 use differential::library::{any, compare, lengths};
 use differential::numbers;
 use differential::smallest::Smallest;
+use differential::watch;
 use simulator::batch_cases::BatchCases;
 use simulator::boards::ToldApart;
 use simulator::calls::{image_words, refusal_of, transient_words, Call, Refusals};
 use simulator::damage::{any_image, damage_length, damaged_store, edge_word, wild_store};
 use simulator::generator::{any_call, start, unformatted, Mix};
 use simulator::image::Sizes;
+use simulator::index_cases::IndexCases;
+use simulator::index_damage::damage_index;
 use simulator::queue_cases::QueueCases;
 use simulator::random::Random;
 use simulator::remains::{CallsOnRemains, RecoveriesOfRemains};
@@ -29,13 +34,17 @@ struct Test {
     batch_cases: BatchCases,
     on_remains: CallsOnRemains,
     of_remains: RecoveriesOfRemains,
+    index_cases: IndexCases,
+    misled: Misled,
     smallest: Smallest,
 }
 
 fn main() {
     let [seed, count] = numbers("calls SEED COUNT");
+    watch::start();
     let random = Random::new(seed);
-    let (refusals, told_apart, queue_cases, batch_cases, on_remains, of_remains, smallest) = Default::default();
+    let (refusals, told_apart, queue_cases, batch_cases, on_remains, of_remains) = Default::default();
+    let (index_cases, misled, smallest) = Default::default();
     let (calls, accepted) = (0, 0);
     let mut test = Test {
         random,
@@ -47,6 +56,8 @@ fn main() {
         batch_cases,
         on_remains,
         of_remains,
+        index_cases,
+        misled,
         smallest,
     };
     while test.calls < count {
@@ -57,17 +68,19 @@ fn main() {
         test.honest(slots);
         test.recoveries(slots);
         let wild = wild_store(&mut test.random, slots);
+        for _ in 0..4 {
+            test.on_damaged_index(&wild, 6);
+        }
         test.changes(wild, 12);
     }
-    let Test {
-        calls, accepted, refusals, told_apart, queue_cases, batch_cases, on_remains, of_remains, smallest, ..
-    } = test;
+    let Test { calls, accepted, refusals, told_apart, queue_cases, batch_cases, on_remains, of_remains, .. } = test;
+    let Test { index_cases, misled, smallest, .. } = test;
     smallest.report(seed);
     let ToldApart { no_9, no_11, found_none } = told_apart;
     println!(
         "{calls} calls, no difference, {accepted} accepted, refusals by number {refusals:?}, slots told from jobs by \
          their board: no 9 {no_9}, no 11 {no_11}, none found {found_none}, {queue_cases}, {batch_cases}, {on_remains}, \
-         {of_remains}, seed {seed}"
+         {of_remains}, {index_cases}, {misled}, seed {seed}"
     );
     assert!(refusals[1..].iter().all(|&seen| seen >= 100), "too few of some refusal");
     assert!(told_apart.are_at_least(100), "too few slots that only their board tells from a job");
@@ -75,6 +88,8 @@ fn main() {
     assert!(batch_cases.are_at_least(100), "too few of some sort of batches");
     assert!(on_remains.are_at_least(100), "too few calls that met remains in some way");
     assert!(of_remains.are_at_least(100), "too few recoveries that met remains in some way");
+    assert!(index_cases.are_at_least(100), "too few of some change of the index");
+    assert!(misled.are_at_least(100), "too few answers that a damaged index changed in some way");
 }
 
 impl Test {
@@ -87,6 +102,7 @@ impl Test {
                 self.queue_cases.note(&before, call, reply);
                 self.batch_cases.note(&before, call, reply);
                 self.on_remains.note(&before, call, reply, store);
+                self.index_cases.note(&before, call, reply, store);
                 if *call == Call::Recover {
                     self.of_remains.note(&before.persistent, &store.persistent);
                 }
@@ -114,6 +130,18 @@ impl Test {
         }
     }
 
+    /// Calls on a copy of the store with a damaged index.
+    fn on_damaged_index(&mut self, store: &Store, count: usize) {
+        let mut store = store.clone();
+        damage_index(&mut self.random, &mut store);
+        for _ in 0..count {
+            let call = any_call(&mut self.random, &store, Mix { advances: 10, batches: 15, keys: 4 });
+            if let Err(what) = self.misled.make(&mut store, &call) {
+                self.smallest.note(store.working.len() + store.transient.len(), what);
+            }
+        }
+    }
+
     /// A run, with side steps into damaged copies of the store and into a recovery of what it would leave.
     fn honest(&mut self, slots: u32) {
         let mut store = start(&mut self.random, slots);
@@ -125,7 +153,11 @@ impl Test {
             if self.random.chance(10) {
                 let damaged = damaged_store(&mut self.random, &store);
                 self.make(&mut damaged.clone(), &Call::Recover);
+                self.on_damaged_index(&damaged, 2);
                 self.changes(damaged, 5);
+            }
+            if self.random.chance(3) {
+                self.on_damaged_index(&store, 5);
             }
         }
     }

@@ -131,7 +131,7 @@ impl Cases {
         }
     }
 
-    /// Lengths around the right ones, for each slice alone; T 0 and T 17 among those of the notes.
+    /// Lengths around the right ones, for each slice alone; T 0 and T 17 among those of the notes, and 6 + T + 3N words.
     fn wrong_lengths(&mut self) {
         for image in small_images() {
             let (length, slots) = (image.len(), image[0]);
@@ -147,8 +147,9 @@ impl Cases {
                 try_lengths(length, wrong, one_thread);
                 try_lengths(wrong, wrong, one_thread);
             }
-            for notes in [0, 1, 5, 6, one_thread - 2, one_thread - 1, one_thread, one_thread + 15, one_thread + 16, 900]
-            {
+            let without_an_index = one_thread - 2 * slots as usize;
+            let around = [one_thread - 2, one_thread - 1, one_thread, one_thread + 15, one_thread + 16];
+            for notes in [&[0, 1, 5, 6, 900, without_an_index][..], &around].concat() {
                 try_lengths(length, length, notes);
             }
         }

@@ -9,6 +9,7 @@ use differential::library::{answers, any, compare, lengths};
 use simulator::batch::{Outcome, NEW};
 use simulator::calls::{line_written_back, refused, Call, DONE, TICKED, WENT_ON};
 use simulator::image::{ALLOC, DELETE, HEADER_WORDS, JOBS, PREFIX, QUEUE, UPDATE};
+use simulator::index;
 use simulator::lister::bytes_of;
 use simulator::store::Store;
 
@@ -19,10 +20,11 @@ const END: Call = Call::End { thread: 0 };
 const BOARD: usize = 3;
 
 fn main() {
-    let cases: [fn() -> usize; 11] = [
+    let cases: [fn() -> usize; 12] = [
         sizes_out_of_range,
         notes_of_other_sizes,
         marks_of_three_words,
+        notes_without_an_index,
         a_board_of_two,
         lines_of_a_sync,
         lines_of_a_quiet_sync,
@@ -50,9 +52,9 @@ fn sizes_out_of_range() -> usize {
 }
 
 /// "the images or notes differ in sizes": a store with the notes of another N and T, as format left them and as a first
-/// job left them. They are as long as its own: N 3, T 4 and N 4, T 1 have 19 words both.
+/// job left them. They are as long as its own: N 3, T 6 and N 4, T 1 have 27 words both.
 fn notes_of_other_sizes() -> usize {
-    let pairs = [((3, 4), (4, 1)), ((4, 1), (3, 4)), ((1024, 1), (1023, 4)), ((2, 16), (7, 1))];
+    let pairs = [((3, 6), (4, 1)), ((4, 1), (3, 6)), ((1024, 1), (1023, 6)), ((2, 16), (5, 1))];
     let mut calls = 0;
     for ((slots, threads), (other_slots, other_threads)) in pairs {
         let [mut own, mut other] = [sized(slots, 2, threads), sized(other_slots, 2, other_threads)];
@@ -113,6 +115,18 @@ fn marks_of_three_words() -> usize {
     assert_eq!(answers(&bytes), [refused(1); 2], "the questions");
     make(&mut store, &[(Call::Format { slots: 4, words: 2 }, 1), (Call::Recover, refused(1))])
         + each_declines_with_1(&mut store, &[6])
+}
+
+/// Notes of 6 + T + 3N words, as they were before they had an index: no call takes them.
+fn notes_without_an_index() -> usize {
+    let mut calls = 0;
+    for (slots, threads) in [(2, 4), (8, 2), (16, 4), (1024, 16)] {
+        let mut store = sized(slots, 2, threads);
+        store.transient.truncate((6 + threads + 3 * slots) as usize);
+        calls += make(&mut store, &[(Call::Format { slots, words: 2 }, 1), (Call::Recover, refused(1))]);
+        calls += each_declines_with_1(&mut store, &[6]);
+    }
+    calls
 }
 
 /// "N 2, one job: a second new gives 13; deleting the first in a later epoch succeeds."
@@ -270,9 +284,10 @@ fn mark_written_back(store: &mut Store, slot: usize) -> usize {
     make(store, &words.into_iter().map(|word| (word, 0)).collect::<Vec<_>>())
 }
 
-/// Moves a slot of working to another board, which only damage does.
+/// Moves a slot of working to another board, which only damage does, and in the index to its new name.
 fn stray(store: &mut Store, slot: usize, board: u32) {
     set_board(&mut store.working, slot, board);
+    index::anew(store);
 }
 
 fn set_board(image: &mut [u32], slot: usize, board: u32) {
@@ -292,7 +307,7 @@ fn make(store: &mut Store, calls: &[(Call, u64)]) -> usize {
 fn sized(slots: u32, words: u32, threads: u32) -> Store {
     let mut image = vec![0; PREFIX + (HEADER_WORDS + words as usize) * slots as usize];
     image[..3].copy_from_slice(&[slots, words, 2]);
-    let mut transient = vec![0; (6 + threads + 3 * slots) as usize];
+    let mut transient = vec![0; (6 + threads + 5 * slots) as usize];
     transient[..4].copy_from_slice(&[slots, slots - 1, 1, 1]);
     Store { working: image.clone(), persistent: image, transient }
 }

@@ -1,9 +1,10 @@
 //! The hand-over queue on the library: first in, first out, and what a cut leaves of it.
 
-use super::{delete, make, mark, new, set_board, sized, value_place, BEGIN, END};
+use super::{delete, make, mark, new, sized, stray, value_place, BEGIN, END};
 use differential::library::{answers, any, compare};
 use simulator::calls::{refused, Call, DONE, TICKED, WENT_ON};
 use simulator::image::{Sizes, ALLOC, DELETE, JOBS, LARGEST, QUEUE, UPDATE};
+use simulator::index;
 use simulator::lister::bytes_of;
 use simulator::store::Store;
 use simulator::transient::{Layout, NEXT_ORDER, NEXT_UID};
@@ -74,6 +75,7 @@ fn two_entries_of_one_number() -> usize {
     let sizes = Sizes::of(&store.working).expect("a fresh store has its sizes");
     let calls = make(&mut store, &[(BEGIN, 0), append(0, 70, 1), append(0, 71, 2), append(0, 72, 3)]);
     store.working[sizes.contents_line(0).start] = 2;
+    index::anew(&mut store);
     let calls = calls + make(&mut store, &front_is(4, 0, 0)) + make(&mut store, &[TAKE]);
     calls + make(&mut store, &front_is(4, 0, 1)) + make(&mut store, &[TAKE]) + make(&mut store, &front_is(4, 0, 2))
 }
@@ -160,10 +162,10 @@ fn one_key_on_both_boards() -> usize {
     calls += make(&mut store, &no_front(0, 17));
     for board in [0, 3, u32::MAX] {
         let mut elsewhere = store.clone();
-        set_board(&mut elsewhere.working, 1, board);
+        stray(&mut elsewhere, 1, board);
         calls += make(&mut elsewhere, &no_front(0, 17));
     }
-    set_board(&mut store.working, 1, QUEUE);
+    stray(&mut store, 1, QUEUE);
     calls + make(&mut store, &front_is(8, 0, 1)) + make(&mut store, &[(new(1, &[5]), 0)])
 }
 

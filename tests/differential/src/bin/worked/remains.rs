@@ -5,6 +5,7 @@ use super::{delete, make, mark, mark_written_back, new, read, set, sized, BEGIN,
 use differential::library::{answers, any, compare};
 use simulator::calls::{refused, Call, DONE, TICKED, WENT_ON};
 use simulator::image::{ALLOC, CLOCK, DELETE, HEADER_WORDS, JOBS, LARGEST, PREFIX, QUEUE, UPDATE};
+use simulator::index;
 use simulator::lister::bytes_of;
 use simulator::random::Random;
 use simulator::store::Store;
@@ -122,6 +123,7 @@ fn calls_on_remains() -> usize {
             let mut store = sized(4, 2, 2);
             calls += make(&mut store, &[(BEGIN, 0), (new(8, &[5]), 0), (new(9, &[5]), 0)]);
             set_mark(&mut store.working, 1, without(whole, zeros));
+            index::anew(&mut store);
             store.transient[LAST_TAKEN] = 0;
             let refusal = if zeros == 0 { refusal } else { 10 };
             calls += make(&mut store.clone(), &[(set(9, &[6]), refusal)]);
@@ -147,6 +149,7 @@ fn queue_calls_on_remains() -> usize {
             let mut store = sized(4, 2, 1);
             calls += make(&mut store, &[(BEGIN, 0), (new(8, &[5]), 0), (new(9, &[5]), 0)]);
             set_mark(&mut store.working, 1, without(whole, zeros));
+            index::anew(&mut store);
             store.transient[LAST_TAKEN] = 0;
             let refusal = if zeros == 0 { refusal } else { 17 };
             calls += make(&mut store.clone(), &[(take.clone(), refusal)]);
@@ -172,6 +175,7 @@ fn remains_that_are_not_due() -> usize {
             (store.working[CLOCK], store.persistent[CLOCK]) = (clock, clock);
             let torn = without(whole, zeros);
             set_mark(&mut store.working, 1, torn);
+            index::anew(&mut store);
             let retired = Layout::new(4, 1).expect("one thread").retired(1);
             store.transient[retired] = if whole[0] == UPDATE { 4 } else { 0 };
             let (reply, left) = if torn.contains(&0) { (TICKED, torn) } else { (WENT_ON, [0; 4]) };
@@ -217,7 +221,7 @@ fn cuts_within_each_store() -> usize {
         while let Some(persistent) = torn.pop() {
             images += 1;
             assert_eq!(answers(&bytes_of(&persistent))[1], jobs, "{persistent:?}");
-            let mut crashed = Store { working: random.junk(before.len()), persistent, transient: random.junk(25) };
+            let mut crashed = Store { working: random.junk(before.len()), persistent, transient: random.junk(37) };
             let found = crashed.persistent.clone();
             if step(&mut crashed, &Call::Recover) == WENT_ON && images < 400 {
                 torn.extend(torn_images(&found, &crashed.persistent, &mut random));
