@@ -1,7 +1,7 @@
 -- The ways out of this crate's functions: a law for each, and for each call.
 use Prim.Native.Nat.{ℕ, _+_, _*_, _-_, _≤_, _<_}
-use mathlib.Core.Path.{_≡_, refl, sym, ap, _∙_}
-use mathlib.Core.List.{List}
+use mathlib.Core.Path.{_≡_, refl, sym, _∙_}
+use mathlib.Core.List.{List, _++_}
 use mathlib.Core.Bool.{Bool, true, false}
 use mathlib.Core.Logic.{⊎-elim}
 use lib.ListN.{length, getD, set, take, drop}
@@ -13,13 +13,13 @@ use mir.Syntax.{w64}
 use Rattle.search.specs.Bools.{cases, tests}
 use Rattle.image.specs.declared.header.Header.{Header}
 use Rattle.image.specs.declared.name.Name.{Name}
-use Rattle.image.specs.Layout.{mostNumber, queueBoard, headerAt, contentsAt, imageWords, headerOf, isBlank, hasZero, isFilled, isPayload, header, contents, keyAt, slotsOf, widthOf, sizesOk, shapeOk}
+use Rattle.image.specs.Layout.{mostNumber, queueBoard, headerWords, headerAt, contentsAt, imageWords, headerOf, isBlank, hasZero, isFilled, isPayload, header, contents, keyAt, slotsOf, widthOf, sizesOk, shapeOk}
 use Rattle.image.specs.Line.{headerLine, contentsLine, clockLine, stored, storeLine}
 use Rattle.image.specs.Name.{nameOf, nameAt, misnamed}
-use Rattle.image.specs.Requires.{kindAt, epochAt, uidAt, boardAt, InRange, Slot, SlotOf, Slots, SlotLine, slot, header-fits, slot-of}
+use Rattle.image.specs.Requires.{kindAt, epochAt, uidAt, boardAt, heldHeader, HeaderFits, InRange, Slot, SlotOf, Slots, slot, header-fits, slot-of}
 use Rattle.image.specs.Bytes.{wordsOf, Byte, InWords, Decodes, words-length, words-at}
 use Rattle.image.specs.InPlace.{place-word, place-kind, place-key, place-slot, place-header, place-name, head-word}
-use Rattle.image.specs.Laws.{area-top, sizes-true, shaped, length-contents, part-is}
+use Rattle.image.specs.Laws.{area-top, sizes-true, shaped, length-contents, part-is, part-line, header-part}
 use Rattle.image.specs.Storing.{storings}
 
 -- ---- headers
@@ -31,6 +31,17 @@ pub header-stored : (l : List ℕ) (s : ℕ) (h : Header)
     → set (set (set (set l (headerAt s) (h .kind)) (headerAt s + 1) (h .epoch)) (headerAt s + 2) (h .uid)) (headerAt s + 3) (h .board) ≡ storeLine l (headerLine s h)
 unfolding storeLine stored
 header-stored l s h = let first : headerAt s + 0 ≡ headerAt s = omega arith in rw first
+
+-- the part that is a header: its end, and what a part with another image's header makes
+header-end : {l : List ℕ} {n s : ℕ} → HeaderFits l n s → headerAt s + headerWords ≤ length l
+header-end z = omega (arith, z .long, z .within)
+
+pub header-copied : {a d : List ℕ} {n s : ℕ} {y : List ℕ} → HeaderFits a n s → HeaderFits d n s
+    → y ≡ take (headerAt s + headerWords - headerAt s) (drop (headerAt s) a)
+    → take (headerAt s) d ++ (y ++ drop (headerAt s + headerWords - headerAt s) (drop (headerAt s) d)) ≡ storeLine d (heldHeader a s)
+header-copied {a} {d} {n} {s} x z e =
+    let e′ : headerAt s + headerWords - headerAt s ≡ headerWords = omega arith in
+    rw (e, e′, header-part a s (header-end x)) (part-line d (heldHeader a s) headerWords refl (header-end z))
 
 module _ (h : Header) where
   pub blank-kind : (h .kind ≡ 0 → ⊥) → false ≡ isBlank h
@@ -102,28 +113,12 @@ pub key-is : (l : List ℕ) (n w s : ℕ) {b : ℕ} → b ≡ contentsAt n w s �
 unfolding keyAt
 key-is l n w s e = rw e
 
-pub line-room : {l words : List ℕ} {n w s b : ℕ} → SlotLine l n w s words → b ≡ contentsAt n w s → b + w ≤ length l
-line-room z e = omega (arith, z .slot .room, z .slot .sized .long)
-
-pub line-slot : {l words : List ℕ} {n w s : ℕ} → SlotLine l n w s words → SlotOf n w s
-line-slot z = slot-of (z .slot)
-
-pub contents-stored : {l words : List ℕ} {n w s b : ℕ} {l′ : List ℕ} → SlotLine l n w s words → b ≡ contentsAt n w s → l′ ≡ stored l b words w → l′ ≡ storeLine l (contentsLine n w s words)
-unfolding storeLine
-contents-stored {l} {words} {n} {w} {s} z at e = rw (z .long, ← at) e
-
-pub part-end : {a d : List ℕ} {n w s b : ℕ} → Slots a d n w s → b ≡ contentsAt n w s → b + w ≤ length a
-part-end z e = omega (arith, z .first .room, z .first .sized .long)
-
-pub part-slot : {a d : List ℕ} {n w s : ℕ} → Slots a d n w s → SlotOf n w s
-part-slot z = slot-of (z .first)
-
-pub part-line : {a d : List ℕ} {n w s b : ℕ} → Slots a d n w s → b ≡ contentsAt n w s → SlotLine d n w s (take (b + w - b) (drop b a))
-part-line {a} {d} {n} {w} {s} z e = record { slot = z .second; long = rw (part-is a n w s e) (length-contents (z .first)) }
-
-pub part-copied : (a d : List ℕ) (n w s : ℕ) {b : ℕ} {d′ : List ℕ} → b ≡ contentsAt n w s → d′ ≡ storeLine d (contentsLine n w s (take (b + w - b) (drop b a)))
-    → d′ ≡ storeLine d (contentsLine n w s (contents a n w s))
-part-copied a d n w s e h = h ∙ ap (λ (x : List ℕ). storeLine d (contentsLine n w s x)) (part-is a n w s e)
+pub contents-copied : {a d : List ℕ} {n w s b : ℕ} {y : List ℕ} → Slots a d n w s → b ≡ contentsAt n w s → y ≡ take (b + w - b) (drop b a)
+    → take b d ++ (y ++ drop (b + w - b) (drop b d)) ≡ storeLine d (contentsLine n w s (contents a n w s))
+contents-copied {a} {d} {n} {w} {s} {b} z at e =
+    let e′ : b + w - b ≡ w = omega arith in
+    let end : contentsAt n w s + w ≤ length d = omega (arith, z .second .room, z .second .sized .long) in
+    rw (e ∙ part-is a n w s at, e′, at) (part-line d (contentsLine n w s (contents a n w s)) w (length-contents (z .first)) end)
 
 -- ---- names
 pub name-made : (l : List ℕ) (n w s : ℕ) {b k : ℕ} → b ≡ boardAt l s → k ≡ keyAt l n w s → nameOf b k ≡ nameAt l n w s
@@ -192,4 +187,4 @@ module _ (bytes : List ℕ) {a b n w : ℕ} {r : Bool} (p : a ≡ getD (wordsOf 
 
 pub ruleset places = (place-word, place-kind, place-key, place-slot, place-header, place-name, head-word, place-short, place-sizes, place-fits)
 
-pub ruleset laws = (tests, storings, slot, header-fits, slot-of, header-is, header-stored, contents-fits, contents-top, key-in, key-is, line-room, line-slot, contents-stored, part-end, part-slot, part-line, part-copied, name-made, bad-zero, bad-entry, bad-none, clock-stored, area-fits, whole-fits, sizes-true, shape-short, shape-sizes, shape-long, in-words, word-made)
+pub ruleset laws = (tests, storings, slot, header-fits, slot-of, header-is, header-stored, header-copied, contents-fits, contents-top, key-in, key-is, contents-copied, name-made, bad-zero, bad-entry, bad-none, clock-stored, area-fits, whole-fits, sizes-true, shape-short, shape-sizes, shape-long, in-words, word-made)

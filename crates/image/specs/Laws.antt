@@ -2,11 +2,11 @@
 use Prim.Native.Nat.{ℕ, zero, suc, _+_, _*_, _-_, _≤_, _<_}
 use mathlib.Core.Path.{_≡_, refl, sym, ap, _∙_}
 use mathlib.Core.Logic.{_≢_, _⊎_, inl, inr, ⊎-elim}
-use mathlib.Core.List.{List, [], _∷_}
+use mathlib.Core.List.{List, [], _∷_, _++_, append-assoc}
 use mathlib.Core.Bool.{Bool, true, _&&_}
 use lib.ListN.{length, getD, set, take, drop, length-set, length-take, length-drop}
 use lib.Dec.{leb, eqb}
-use lib.Seq.{getD-set-same, getD-set-other, ext-getD, getD-take, getD-drop, take-nil, drop-drop}
+use lib.Seq.{getD-set-same, getD-set-other, ext-getD, getD-take, getD-drop, take-all, take-nil, drop-drop, paste, paste-zero, paste-suc}
 use borrow.Author.Tests.{leb-true, eqb-true}
 use native.Mathlib.Omega.{arith}
 use native.Mathlib.Nat.{mul-le-mul, eq-or-lt-of-le}
@@ -16,7 +16,7 @@ use Rattle.image.specs.declared.header.Header.{Header}
 use Rattle.image.specs.Layout.{mostSlots, headerWords, headerAt, contentsAt, imageWords, header, contents, keyAt, valueAt, slotsOf, widthOf, clockOf, sizesOk, shapeOk}
 use Rattle.image.specs.Line.{Line, headerLine, contentsLine, clockLine, stored, storeLine}
 use Rattle.image.specs.Name.{nameOf, nameAt, name-is, name-kept}
-use Rattle.image.specs.Requires.{kindAt, epochAt, uidAt, boardAt, InRange, Sized, Slot, HeaderFits, room-of}
+use Rattle.image.specs.Requires.{kindAt, epochAt, uidAt, boardAt, InRange, Sized, Slot, HeaderFits, heldHeader, room-of}
 
 -- ---- an image of the right shape has its sizes
 pub area-top : {n w : ℕ} → InRange n w → w * n ≤ 9 * mostSlots
@@ -92,6 +92,20 @@ stored-front dst src k e h =
     ext-getD 0 (take k (stored dst 0 src k)) src (long ∙ sym e)
     (λ i l. let u : i < k = rw long at l in getD-take k (stored dst 0 src k) i 0 u ∙ front-inside dst src k i u h)
 
+-- a part that was lent and came back with other words
+pub paste-stored : (dst : List ℕ) (b : ℕ) (src : List ℕ) (k : ℕ) → b + k ≤ length dst → k ≤ length src → paste dst b src k ≡ stored dst b src k
+unfolding stored
+paste-stored dst b src zero f h = sym (paste-zero dst b src)
+paste-stored dst b src (suc k) f h =
+    sym (paste-suc dst b src k 0 (omega arith) h) ∙ ap (λ (x : List ℕ). set x (b + k) (getD src k 0)) (paste-stored dst b src k (omega arith) (omega arith))
+
+pub part-stored : (dst : List ℕ) (b : ℕ) (src : List ℕ) (k : ℕ) → b + k ≤ length dst → k ≤ length src
+    → take b dst ++ (take k src ++ drop k (drop b dst)) ≡ stored dst b src k
+part-stored dst b src k f h =
+    sym (append-assoc (take b dst) (take k src) (drop k (drop b dst)))
+    ∙ ap (λ (x : List ℕ). take b dst ++ take k src ++ x) (drop-drop k b dst)
+    ∙ paste-stored dst b src k f h
+
 -- ---- a line: its own words, and those apart from it
 -- the m words from b on are none of the line's
 abbrev pub Apart : Line → ℕ → ℕ → Type 0
@@ -137,6 +151,13 @@ part-same l k m e f =
     let u : j < m = rw long at h in
     part-word (storeLine l k) (k .at) m j u ∙ word-in l k j (omega arith) (omega arith))
 
+-- a part that was lent and came back with a line's words
+pub part-line : (l : List ℕ) (k : Line) (m : ℕ) → length (k .words) ≡ m → k .at + m ≤ length l
+    → take (k .at) l ++ (k .words ++ drop m (drop (k .at) l)) ≡ storeLine l k
+unfolding storeLine
+part-line l k m e f =
+    rw e (rw (take-all m (k .words) (omega arith)) at (part-stored l (k .at) (k .words) m f (omega arith)))
+
 -- ---- headers
 pub header-apart : (l : List ℕ) (k : Line) (s : ℕ) → Apart k (headerAt s) headerWords → header (storeLine l k) s ≡ header l s
 unfolding header
@@ -161,6 +182,21 @@ header-same {l} {n} {s} h z =
 pub header-other : (l : List ℕ) (s t : ℕ) (h : Header) → t ≢ s → header (storeLine l (headerLine s h)) t ≡ header l t
 header-other l s t h d =
     header-apart l (headerLine s h) t (elim (decLt t s) [ yes u ↦ inl (omega arith) | no u ↦ inr (omega arith) ])
+
+pub header-word : (l : List ℕ) (s j : ℕ) → j < headerWords → getD (heldHeader l s .words) j 0 ≡ getD l (headerAt s + j) 0
+unfolding header
+header-word l s zero h = let e : headerAt s + 0 ≡ headerAt s = omega arith in rw e
+header-word l s (suc zero) h = refl
+header-word l s (suc (suc zero)) h = refl
+header-word l s (suc (suc (suc zero))) h = refl
+header-word l s (suc (suc (suc (suc j)))) h = absurd (omega arith)
+
+-- the part of an image that is a header
+pub header-part : (l : List ℕ) (s : ℕ) → headerAt s + headerWords ≤ length l → take headerWords (drop (headerAt s) l) ≡ heldHeader l s .words
+header-part l s f =
+    let long : length (take headerWords (drop (headerAt s) l)) ≡ headerWords = simp (length-take, length-drop) (omega arith) in
+    ext-getD 0 (take headerWords (drop (headerAt s) l)) (heldHeader l s .words) long
+    (λ j h. let u : j < headerWords = rw long at h in part-word l (headerAt s) headerWords j u ∙ sym (header-word l s j u))
 
 -- .. such a line leaves every slot's contents, the clock and the sizes
 module _ (l : List ℕ) (n w s t : ℕ) (h : Header) (within : s < n) where

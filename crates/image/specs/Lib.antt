@@ -9,4 +9,5 @@ pub mod Torn
 pub mod Bytes
 pub mod InPlace
 pub mod Storing
+pub mod Moving
 pub mod Exits

@@ -35,11 +35,6 @@ pub record Slots (a b : List ℕ) (n w s : ℕ) : Type 0 where
   pub first : Slot a n w s
   pub second : Slot b n w s
 
--- a slot, and a line of W words for it
-pub record SlotLine (l : List ℕ) (n w s : ℕ) (words : List ℕ) : Type 0 where
-  pub slot : Slot l n w s
-  pub long : length words ≡ w
-
 -- where a header is read or written
 pub record HeaderFits (l : List ℕ) (n s : ℕ) : Type 0 where
   pub within : s < n

@@ -10,11 +10,11 @@ use native.Mathlib.Omega.{arith}
 use native.Mathlib.Decide.{ℕ-discrete, decLt}
 use Rattle.search.specs.Bools.{cases}
 use Rattle.image.specs.declared.header.Header.{Header}
-use Rattle.image.specs.Layout.{headerAt, contentsAt, hasZero, header, contents, freeHeader}
+use Rattle.image.specs.Layout.{headerWords, headerAt, contentsAt, hasZero, header, contents, freeHeader}
 use Rattle.image.specs.Line.{headerLine, clockLine, stored, storeLine}
 use Rattle.image.specs.Whole.{Whole, whole-says}
 use Rattle.image.specs.Requires.{HeaderFits, heldHeader, heldContents}
-use Rattle.image.specs.Laws.{length-store, word-apart, part-word, part-long, part-top, header-same, contents-word, word-past-clock}
+use Rattle.image.specs.Laws.{length-store, word-apart, part-word, part-long, part-top, header-same, header-word, contents-word, word-past-clock}
 
 -- 02, No. 4: "every image whose words are each as before or as after the one line store underway"
 pub record Torn (before after l : List ℕ) : Type 0 where
@@ -83,15 +83,8 @@ word-from wk l i j =
     (set-either l i j (getD wk i 0))
 
 pub header-from : (wk l : List ℕ) (s : ℕ) → From wk l (storeLine l (heldHeader wk s))
-unfolding storeLine header
-header-from wk l s = stored-from wk l (headerAt s) (heldHeader wk s .words) 4 word
-  where
-    word : (j : ℕ) → j < 4 → getD (heldHeader wk s .words) j 0 ≡ getD wk (headerAt s + j) 0
-    word zero h = let e : headerAt s + 0 ≡ headerAt s = omega arith in rw e
-    word (suc zero) h = refl
-    word (suc (suc zero)) h = refl
-    word (suc (suc (suc zero))) h = refl
-    word (suc (suc (suc (suc j)))) h = absurd (omega arith)
+unfolding storeLine
+header-from wk l s = stored-from wk l (headerAt s) (heldHeader wk s .words) headerWords (header-word wk s)
 
 pub contents-from : (wk l : List ℕ) (n w s : ℕ) → From wk l (storeLine l (heldContents wk n w s))
 unfolding storeLine contents

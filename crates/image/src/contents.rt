@@ -5,7 +5,7 @@ ghost use Prim.Native.Nat.{_+_, _≤_};
 ghost use lib.ListN.{length, replicate};
 ghost use Rattle.image.specs.Layout.{contentsAt, keyAt, contents};
 ghost use Rattle.image.specs.Line.{stored, storeLine, contentsLine};
-ghost use Rattle.image.specs.Requires.{SlotOf, Slot, Slots, SlotLine};
+ghost use Rattle.image.specs.Requires.{SlotOf, Slot, Slots};
 
 // Where a slot's contents stand.
 pub fn contents_at(n: usize, w: usize, s: usize) -> usize
@@ -34,22 +34,14 @@ pub fn store_words(dst: &mut [u32], b: usize, src: &[u32], k: usize)
     }
 }
 
-// W words become the contents of a slot.
-pub fn set_contents(img: &mut [u32], n: usize, w: usize, s: usize, words: &[u32])
-    requires { ⌜ SlotLine (now img) n w s (now words) ⌝ }
-    ensures { λ _. ⌜ now (img .exit) ≡ storeLine (now (img .entry)) (contentsLine n w s (now (words .entry))) ⌝ }
-{
-    store_words(img, contents_at(n, w, s), words, w);
-}
-
-// A slot's contents, from one image to the other: the words go as a part of the source that starts in its middle.
+// A slot's contents, from one image to the other: a part of the source goes into that part of the target.
 pub fn copy_contents(src: &[u32], dst: &mut [u32], n: usize, w: usize, s: usize)
     requires { ⌜ Slots (now src) (now dst) n w s ⌝ }
     ensures { λ _. ⌜ now (dst .exit) ≡ storeLine (now (dst .entry)) (contentsLine n w s (contents (now (src .entry)) n w s)) ⌝ }
 {
     let b = contents_at(n, w, s);
     let e = b + w;
-    set_contents(dst, n, w, s, &src[b..e]);
+    crate::line::move_line(&src[b..e], &mut dst[b..e]);
 }
 
 // Every word 0.

@@ -2,7 +2,7 @@
 ghost use mathlib.Core.Path.{_≡_};
 ghost use Rattle.image.specs.Layout.{header, freeHeader, freshHeader, updatedHeader, antiHeader, isBlank, hasZero, isFilled, isPayload};
 ghost use Rattle.image.specs.Line.{headerLine, storeLine};
-ghost use Rattle.image.specs.Requires.{HeaderFits, boardAt};
+ghost use Rattle.image.specs.Requires.{HeaderFits, boardAt, heldHeader};
 
 pub struct Header {
     pub kind: u32,
@@ -108,6 +108,16 @@ pub fn set_header(img: &mut [u32], n: usize, s: usize, h: Header)
     img[b + 1] = h.epoch;
     img[b + 2] = h.uid;
     img[b + 3] = h.board;
+}
+
+// A slot's header, from one image to the other: a part of the source goes into that part of the target.
+pub fn copy_header(src: &[u32], dst: &mut [u32], n: usize, s: usize)
+    requires { ⌜ HeaderFits (now src) n s × HeaderFits (now dst) n s ⌝ }
+    ensures { λ _. ⌜ now (dst .exit) ≡ storeLine (now (dst .entry)) (heldHeader (now (src .entry)) s) ⌝ }
+{
+    let b = 3 + Header::WORDS * s;
+    let e = b + Header::WORDS;
+    crate::line::move_line(&src[b..e], &mut dst[b..e]);
 }
 
 // Four zeros?

@@ -3,5 +3,6 @@
 pub mod bytes;
 pub mod contents;
 pub mod header;
+pub mod line;
 pub mod name;
 pub mod shape;

@@ -6,6 +6,8 @@ use mathlib.Core.Logic.{⊎-elim}
 use mathlib.Core.List.{List}
 use lib.Dec.{eqb}
 use borrow.Author.Tests.{lt-ltb, le-ltb, eq-eqb, ne-eqb}
+use native.Mathlib.Omega.{arith}
+use native.Mathlib.Decide.{ℕ-discrete}
 use Rattle.search.specs.Bools.{cases}
 use Rattle.search.specs.declared.Found.{Found}
 use Rattle.search.specs.declared.Found.the-variants.{At, Nothing}
@@ -17,15 +19,15 @@ use Rattle.image.specs.Name.{nameAt}
 use Rattle.image.specs.Requires.{heldHeader, heldContents, Slots, slot}
 use Rattle.transient.specs.declared.sizes.Sizes.{Sizes}
 use Rattle.transient.specs.Layout.{retiredIn, isWaiting, setRetired, emptied}
-use Rattle.transient.specs.Store.{store, table}
+use Rattle.transient.specs.Store.{Table, store, table}
 use Rattle.transient.specs.Requires.{NoteOf, ShapedSlot, note-after, slot-note, slot-working, slot-head}
 use Rattle.transient.specs.Laws.{retired-front}
 use Rattle.index.specs.Index.{removed}
 use Rattle.step.specs.declared.Place.{Place}
 use Rattle.step.specs.declared.Advance.the-variants.{WentOn, Ticked}
 use Rattle.step.specs.Step.{idle, reclaimNext, contentsNext, headerNext, clockNext, Stepped, stepped, place, passing, due, reclaimed, contentsFlushed, headerFlushed, ticking, flushFrom, reclaimFrom, step}
-use Rattle.step.specs.Stages.{dueFrom, waitingFrom}
-use Rattle.step.specs.Requires.{retiredDue, payloadDue, antiDue, Freed, reclaimAt, Waiting, Going, slots-first, slots-second, waiting-note, going-advancing, going-first, requires-laws}
+use Rattle.step.specs.Stages.{dueFrom, dueNext, reclaimOrFlush, waitingFrom}
+use Rattle.step.specs.Requires.{retiredDue, payloadDue, antiDue, Freed, slotIn, Waiting, Going, slots-first, slots-second, waiting-note, going-advancing, going-shaped, requires-laws}
 use Rattle.step.specs.From.{From, from-start, froms, pairs, due-is, due-between, waiting-is, waiting-between}
 
 -- ---- what is due
@@ -91,20 +93,21 @@ waiting-start {tr} {z} {c} {p} y = from-start (isWaiting z tr (c - 1)) (z .n) p 
 pub waiting-few : {tr : List ℕ} {z : Sizes} {c p : ℕ} → Waiting tr z c p → z .n ≤ mostSlots
 waiting-few y = y .note .notes .slots-hi
 
+-- two slots below the last, and the last alone
+pub below-last : {n s : ℕ} → s < n - 1 → s + 1 < n
+below-last h = omega arith
+
+pub at-last : {n s : ℕ} → n - 1 ≤ s → n ≤ s + 1
+at-last h = omega arith
+
 -- ---- a slot found is one of the table
 module _ {wk l tr : List ℕ} {z : Sizes} {c p s : ℕ} {f : Found} (y : Going wk l tr z c p) where
-  pub going-due : f ≡ dueFrom z (table wk tr) c p → f ≡ At s → Going wk l tr z c s
-  going-due e a = record { advancing = y .advancing; within = due-between z (table wk tr) c p (sym e ∙ a) .below }
-
   pub going-wait : f ≡ waitingFrom z tr c p → f ≡ At s → Slots wk l (z .n) (z .w) s
   going-wait e a =
       let h = waiting-between z tr c p (sym e ∙ a) .below in
       record { first = slot (y .advancing .shaped .working) h; second = slot (y .advancing .persistent) h }
 
 -- ---- lines
-pub header-written : (wk l : List ℕ) (s : ℕ) {h : Header} {l′ : List ℕ} → h ≡ header wk s → l′ ≡ storeLine l (headerLine s h) → l′ ≡ storeLine l (heldHeader wk s)
-header-written wk l s at e = rw (← at) e
-
 pub freed-both : (wk l : List ℕ) (s : ℕ) {g h : Header} {wk′ l′ : List ℕ} → g ≡ freeHeader → wk′ ≡ storeLine wk (headerLine s g) → h ≡ freeHeader → l′ ≡ storeLine l (headerLine s h) → Freed wk l s wk′ l′
 freed-both wk l s a p b q = record { working = rw a at p; persistent = rw b at q }
 
@@ -118,21 +121,48 @@ unfolding passing
 passing-over n s phase next h = rw (le-ltb (s + 1) n h)
 
 module _ (p : Place) where
-  pub reclaim-on : p .phase ≡ reclaimNext → p .slot ≡ reclaimAt p
-  unfolding reclaimAt
-  reclaim-on h = rw (eq-eqb (p .phase) reclaimNext h)
+  pub slot-on : (phase : ℕ) → p .phase ≡ phase → p .slot ≡ slotIn p phase
+  unfolding slotIn
+  slot-on phase h = rw (eq-eqb (p .phase) phase h)
 
-  pub reclaim-first : (p .phase ≡ reclaimNext → ⊥) → 0 ≡ reclaimAt p
-  unfolding reclaimAt
-  reclaim-first h = rw (ne-eqb (p .phase) reclaimNext h)
+  pub slot-first : (phase : ℕ) → (p .phase ≡ phase → ⊥) → 0 ≡ slotIn p phase
+  unfolding slotIn
+  slot-first phase h = rw (ne-eqb (p .phase) phase h)
 
-  pub going-reclaim : {wk l tr : List ℕ} {z : Sizes} {c a : ℕ} → Going wk l tr z c (p .slot) → a ≡ reclaimAt p → Going wk l tr z c a
-  unfolding reclaimAt
-  going-reclaim y e =
+  -- it is a slot of the table
+  slot-within : (phase : ℕ) {n a : ℕ} → a ≡ slotIn p phase → p .slot < n → a < n
+  unfolding slotIn
+  slot-within phase {n} {a} e h =
       ⊎-elim
-      (λ (t : eqb (p .phase) reclaimNext ≡ true). let f = rw t at e in rw f y)
-      (λ (t : eqb (p .phase) reclaimNext ≡ false). let f = rw t at e in rw f (going-first y))
-      (cases (eqb (p .phase) reclaimNext))
+      (λ (t : eqb (p .phase) phase ≡ true). let f = rw t at e in rw f h)
+      (λ (t : eqb (p .phase) phase ≡ false). let f = rw t at e in omega arith)
+      (cases (eqb (p .phase) phase))
+
+  pub shaped-in : (phase : ℕ) {wk tr : List ℕ} {z : Sizes} {a : ℕ} → ShapedSlot wk tr z (p .slot) → a ≡ slotIn p phase → ShapedSlot wk tr z a
+  shaped-in phase y e = due-slot y (slot-within phase e (y .slot .within))
+
+  pub going-in : (phase : ℕ) {wk l tr : List ℕ} {z : Sizes} {c a : ℕ} → Going wk l tr z c (p .slot) → a ≡ slotIn p phase → Going wk l tr z c a
+  going-in phase y e = record { advancing = y .advancing; within = slot-within phase e (y .within) }
+
+  -- ---- the next slot to reclaim
+  module _ (z : Sizes) (tb : Table) (c : ℕ) where
+    pub due-over : p .phase ≡ contentsNext → Nothing ≡ dueNext z tb c p
+    unfolding dueNext
+    due-over h = rw (eq-eqb (p .phase) contentsNext h)
+
+    pub due-on : {a : ℕ} {f : Found} → (p .phase ≡ contentsNext → ⊥) → a ≡ slotIn p reclaimNext → f ≡ dueFrom z tb c a → f ≡ dueNext z tb c p
+    unfolding dueNext
+    due-on h e d = rw (ne-eqb (p .phase) contentsNext h, ← e) d
+
+  pub going-due : {wk l tr : List ℕ} {z : Sizes} {c s : ℕ} {f : Found} → Going wk l tr z c (p .slot) → f ≡ dueNext z (table wk tr) c p → f ≡ At s → Going wk l tr z c s
+  unfolding dueNext
+  going-due {wk} {l} {tr} {z} {c} {s} y e a =
+      ⊎-elim
+      (λ (t : eqb (p .phase) contentsNext ≡ true). let g : Nothing ≡ At s = rw t at (sym e ∙ a) in let one : _≡_ {A = ℕ} 0 1 = cc in absurd (omega arith))
+      (λ (t : eqb (p .phase) contentsNext ≡ false).
+      let g = rw t at (sym e ∙ a) in
+      record { advancing = y .advancing; within = due-between z (table wk tr) c (slotIn p reclaimNext) g .below })
+      (cases (eqb (p .phase) contentsNext))
 
 -- ---- a slot no longer retired has its note
 pub retired-note : {tr tr′ : List ℕ} {z : Sizes} {s : ℕ} (e : ℕ) → NoteOf tr z s → tr′ ≡ setRetired z tr s e → NoteOf tr′ z s
@@ -165,20 +195,8 @@ module _ (z : Sizes) (wk l tr : List ℕ) where
     unfolding flushFrom waitingFrom
     flush-tick fe a e = rw (← fe, a) e
 
-    pub reclaim-one : {s : ℕ} {x : Stepped} → f ≡ dueFrom z (table wk tr) c p → f ≡ At s → x ≡ reclaimed z (store wk l tr) s → x ≡ reclaimFrom z (store wk l tr) c p
-    unfolding reclaimFrom dueFrom
-    reclaim-one fe a e = rw (← fe, a) e
-
-    pub reclaim-none : {x : Stepped} → f ≡ dueFrom z (table wk tr) c p → f ≡ Nothing → x ≡ flushFrom z (store wk l tr) c 0 → x ≡ reclaimFrom z (store wk l tr) c p
-    unfolding reclaimFrom dueFrom
-    reclaim-none fe a e = rw (← fe, a) e
-
   -- by the phase
   module _ (c : ℕ) (p : Place) {x : Stepped} where
-    pub step-contents : p .phase ≡ contentsNext → x ≡ flushFrom z (store wk l tr) c (p .slot) → x ≡ step z (store wk l tr) c p
-    unfolding step
-    step-contents a e = rw a e
-
     pub step-header : p .phase ≡ headerNext → x ≡ headerFlushed z (store wk l tr) (p .slot) → x ≡ step z (store wk l tr) c p
     unfolding step
     step-header a e = rw a e
@@ -187,23 +205,40 @@ module _ (z : Sizes) (wk l tr : List ℕ) where
     unfolding step
     step-tick a e = rw a e
 
-    pub step-reclaim : {a : ℕ} → (p .phase ≡ contentsNext → ⊥) → (p .phase ≡ headerNext → ⊥) → (p .phase ≡ clockNext → ⊥) → a ≡ reclaimAt p → x ≡ reclaimFrom z (store wk l tr) c a
-        → x ≡ step z (store wk l tr) c p
-    unfolding step reclaimAt
-    step-reclaim b d f g e =
-        ⊎-elim
-        (λ (y : eqb (p .phase) reclaimNext ≡ true). let h = rw y at g in rw y (rw h at e))
-        (λ (y : eqb (p .phase) reclaimNext ≡ false).
-        let h = rw y at g in
-        rw (y, ne-eqb (p .phase) contentsNext b, ne-eqb (p .phase) headerNext d, ne-eqb (p .phase) clockNext f) (rw h at e))
-        (cases (eqb (p .phase) reclaimNext))
+    pub step-slot : (p .phase ≡ headerNext → ⊥) → (p .phase ≡ clockNext → ⊥) → x ≡ reclaimOrFlush z (store wk l tr) c p → x ≡ step z (store wk l tr) c p
+    unfolding step reclaimFrom reclaimOrFlush dueNext dueFrom slotIn
+    step-slot b d e =
+        elim (ℕ-discrete (p .phase) contentsNext) [
+          | yes h ↦ rw h (rw h at e)
+          | no h ↦ elim (ℕ-discrete (p .phase) reclaimNext) [
+            | yes g ↦ rw g (rw g at e)
+            | no g ↦
+                let i = ne-eqb (p .phase) reclaimNext g in
+                let j = ne-eqb (p .phase) contentsNext h in
+                rw (i, j, ne-eqb (p .phase) headerNext b, ne-eqb (p .phase) clockNext d) (rw (i, j) at e)
+          ]
+        ]
+
+    -- .. at a slot
+    module _ {f : Found} (fe : f ≡ dueNext z (table wk tr) c p) where
+      pub slot-reclaim : {s : ℕ} → f ≡ At s → x ≡ reclaimed z (store wk l tr) s → x ≡ reclaimOrFlush z (store wk l tr) c p
+      unfolding reclaimOrFlush
+      slot-reclaim a e = rw (← fe, a) e
+
+      pub slot-flush : {a : ℕ} → f ≡ Nothing → a ≡ slotIn p contentsNext → x ≡ flushFrom z (store wk l tr) c a → x ≡ reclaimOrFlush z (store wk l tr) c p
+      unfolding reclaimOrFlush
+      slot-flush n g e = rw (← fe, n, ← g) e
 
 pub ruleset dues = (froms, slot-note, slot-head, retired-none, retired-due, payload-young, payload-old, due-payload, due-anti, anti-other, anti-zero, anti-old, due-start, due-slot, due-is)
 
-pub ruleset waits = (pairs, waiting-start, waiting-few, waiting-note, waiting-is)
+pub ruleset waits = (pairs, waiting-start, waiting-few, waiting-note, waiting-is, below-last, at-last)
 
-pub ruleset lines = (slots-first, slots-second, header-written, freed-both, passing-on, passing-over)
+pub ruleset lines = (slots-first, slots-second, freed-both, passing-on, passing-over)
 
-pub ruleset steps = (requires-laws, slot-working, retired-note, going-due, going-wait, reclaim-done, header-done, tick-done, flush-line, flush-tick, reclaim-one, reclaim-none)
+pub ruleset steps = (requires-laws, slot-working, retired-note, going-wait, reclaim-done, header-done, tick-done, flush-line, flush-tick)
 
-pub ruleset stepping = (going-advancing, going-reclaim, reclaim-on, reclaim-first, step-contents, step-header, step-tick, step-reclaim)
+pub ruleset places = (slot-on, slot-first, shaped-in, due-over, due-on)
+
+pub ruleset slots = (going-shaped, going-in, going-due, slot-reclaim, slot-flush)
+
+pub ruleset stepping = (going-advancing, step-header, step-tick, step-slot)

@@ -16,7 +16,6 @@ use Rattle.transient.specs.Layout.{retiredIn}
 use Rattle.transient.specs.Store.{Table}
 use Rattle.transient.specs.Requires.{Notes, NoteOf, Shaped, ShapedSlot, note-of, shaped-slot}
 use Rattle.step.specs.declared.Place.{Place}
-use Rattle.step.specs.Step.{reclaimNext}
 
 -- from slot p on in the waiting list of c - 1
 pub record Waiting (tr : List ℕ) (z : Sizes) (c p : ℕ) : Type 0 where
@@ -97,8 +96,8 @@ pub record Freed (wk l : List ℕ) (s : ℕ) (wk′ l′ : List ℕ) : Type 0 wh
   pub working : wk′ ≡ storeLine wk (headerLine s freeHeader)
   pub persistent : l′ ≡ storeLine l (headerLine s freeHeader)
 
--- where reclaiming goes on, or begins
-unfoldable pub reclaimAt : Place → ℕ
-reclaimAt p = cond (eqb (p .phase) reclaimNext) (p .slot) 0
+-- where a phase goes on, or begins
+unfoldable pub slotIn : Place → ℕ → ℕ
+slotIn p phase = cond (eqb (p .phase) phase) (p .slot) 0
 
 pub ruleset requires-laws = (slots-first, slots-second, waiting-note, advancing-working, advancing-persistent, advancing-notes, advancing-next, going-advancing, going-slots, going-shaped, going-note, going-waiting, going-next, going-first)

@@ -78,8 +78,9 @@ pub fn waiting_from(transient: &[u32], z: Sizes, c: u32, p: usize) -> Found
     requires { ⌜ Waiting (now transient) z c p ⌝ }
     ensures { λ r. ⌜ r ≡ waitingFrom z (now (transient .entry)) c p ⌝ }
 {
+    let last = z.n - 1;
     let mut s = p;
-    while s + 1 < z.n {
+    while s < last {
         if transient::notes::is_waiting(transient, z, c - 1, s) {
             return Found::At(s);
         }

@@ -9,9 +9,11 @@ use transient::sizes::Sizes;
 ghost use mathlib.Core.Path.{_≡_};
 ghost use Prim.Native.Nat.{_<_};
 ghost use Rattle.image.specs.Layout.{mostSlots};
-ghost use Rattle.transient.specs.Store.{store};
-ghost use Rattle.step.specs.Step.{passing, reclaimed, headerFlushed, ticking, flushFrom, reclaimFrom, step};
-ghost use Rattle.step.specs.Requires.{Advancing, Going, reclaimAt};
+ghost use Rattle.transient.specs.Store.{store, table};
+ghost use Rattle.transient.specs.Requires.{ShapedSlot};
+ghost use Rattle.step.specs.Step.{passing, reclaimed, headerFlushed, ticking, flushFrom, step};
+ghost use Rattle.step.specs.Stages.{dueNext, reclaimOrFlush};
+ghost use Rattle.step.specs.Requires.{Advancing, Going, slotIn};
 ghost use Rattle.step.specs.Moved.{moved};
 
 // The place an advance has reached.
@@ -157,32 +159,50 @@ fn flush_from(
     }
 }
 
-// The next slot to reclaim, else the first line to flush.
-fn reclaim_from(
+// Where a phase goes on, or begins.
+fn slot_in(place: Place, phase: u32) -> usize
+    ensures { λ r. ⌜ r ≡ slotIn place phase ⌝ }
+{
+    if place.phase == phase {
+        return place.slot;
+    }
+    0
+}
+
+// The next slot to reclaim; none where contents are next.
+fn due_next(working: &[u32], transient: &[u32], z: Sizes, c: u32, place: Place) -> Found
+    requires { ⌜ ShapedSlot (now working) (now transient) z (place .slot) ⌝ }
+    ensures { λ r. ⌜ r ≡ dueNext z (table (now (working .entry)) (now (transient .entry))) c place ⌝ }
+{
+    if place.phase == Place::CONTENTS {
+        return Found::Nothing;
+    }
+    crate::due::due_from(working, transient, z, c, slot_in(place, Place::RECLAIM))
+}
+
+// The next slot to reclaim, else the next line to flush.
+fn reclaim_or_flush(
     working: &mut [u32],
     persistent: &mut [u32],
     transient: &mut [u32],
     z: Sizes,
     c: u32,
-    p: usize,
+    place: Place,
 ) -> Moved
-    requires { ⌜ Going (now working) (now persistent) (now transient) z c p ⌝ }
-    ensures { λ r. ⌜ moved r (now (working .exit)) (now (persistent .exit)) (now (transient .exit)) ≡ reclaimFrom z (store (now (working .entry)) (now (persistent .entry)) (now (transient .entry))) c p ⌝ }
+    requires { ⌜ Going (now working) (now persistent) (now transient) z c (place .slot) ⌝ }
+    ensures { λ r. ⌜ moved r (now (working .exit)) (now (persistent .exit)) (now (transient .exit)) ≡ reclaimOrFlush z (store (now (working .entry)) (now (persistent .entry)) (now (transient .entry))) c place ⌝ }
 {
-    match crate::due::due_from(working, transient, z, c, p) {
+    match due_next(working, transient, z, c, place) {
         Found::At(s) => reclaim(working, persistent, transient, z, c, s),
-        Found::Nothing => flush_from(working, persistent, transient, z, c, 0),
+        Found::Nothing => flush_from(
+            working,
+            persistent,
+            transient,
+            z,
+            c,
+            slot_in(place, Place::CONTENTS),
+        ),
     }
-}
-
-// Where reclaiming goes on, or begins.
-fn reclaim_at(place: Place) -> usize
-    ensures { λ r. ⌜ r ≡ reclaimAt place ⌝ }
-{
-    if place.phase == Place::RECLAIM {
-        return place.slot;
-    }
-    0
 }
 
 // From a place on; where none is underway an advance begins.
@@ -199,14 +219,11 @@ pub fn step(
 {
     let at = place.slot;
     let phase = place.phase;
-    if phase == Place::CONTENTS {
-        return flush_from(working, persistent, transient, z, c, at);
-    }
     if phase == Place::HEADER {
         return flush_header(working, persistent, transient, z, c, at);
     }
     if phase == Place::CLOCK {
         return tick(working, persistent, transient, z, c);
     }
-    reclaim_from(working, persistent, transient, z, c, reclaim_at(place))
+    reclaim_or_flush(working, persistent, transient, z, c, place)
 }

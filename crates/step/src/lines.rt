@@ -11,8 +11,7 @@ pub fn write_header(working: &[u32], persistent: &mut [u32], z: Sizes, s: usize)
     requires { ⌜ Slots (now working) (now persistent) (z .n) (z .w) s ⌝ }
     ensures { λ _. ⌜ now (persistent .exit) ≡ storeLine (now (persistent .entry)) (heldHeader (now (working .entry)) s) ⌝ }
 {
-    let h = image::header::header_at(working, z.n, s);
-    image::header::set_header(persistent, z.n, s, h);
+    image::header::copy_header(working, persistent, z.n, s);
 }
 
 // A slot becomes free in both images.
