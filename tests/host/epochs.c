@@ -6,7 +6,7 @@
 
 enum { SLOTS = 8, WORDS = 3, THREADS = 2, VALUE_WORDS = WORDS - 1, PREFIX = 3, KEY = 7 };
 enum { KIND, EPOCH, UID, BOARD, HEADER_WORDS };
-enum { CONTENTS = PREFIX + HEADER_WORDS * SLOTS };
+enum { CONTENTS = PREFIX + HEADER_WORDS * SLOTS, MOST_WORDS = 9, MOST_IMAGE = CONTENTS + MOST_WORDS * SLOTS };
 
 _Static_assert(BOARD_STILL_OPEN == 14 && BOARD_LAST_EPOCH == 15 && BOARD_NO_WORD == 16, "the header's refusals");
 _Static_assert(BOARD_STORED == 0 && BOARD_TICKED == 1, "what an advance call did");
@@ -131,6 +131,45 @@ static void header_out_of_range(struct store *s)
     same("it is zeroed", s->persistent[PREFIX + KIND], 0);
 }
 
+/* An advance call stores the line from `at` on: it is as in working then, and every other word of both images as it was. */
+static void line_stored(const char *what, const struct store *s, size_t at, size_t words)
+{
+    uint32_t working[MOST_IMAGE], expected[MOST_IMAGE];
+    memcpy(working, s->working, s->image * sizeof *working);
+    memcpy(expected, s->persistent, s->image * sizeof *expected);
+    memcpy(expected + at, working + at, words * sizeof *expected);
+    same("the line is not there before", !memcmp(expected, s->persistent, s->image * sizeof *expected), 0);
+    same(what, board_advance(STORE(s)), BOARD_STORED);
+    same("the line, and no other word", !!memcmp(s->persistent, expected, s->image * sizeof *expected), 0);
+    same("working stays", !!memcmp(s->working, working, s->image * sizeof *working), 0);
+}
+
+/* Contents and headers of each width, with words of their own in every slot of both images. */
+static void lines_of_every_width(void)
+{
+    enum { JOBS = 3 };
+    for (uint32_t words = 2; words <= MOST_WORDS; words++) {
+        struct store s = new_store(SLOTS, words, THREADS);
+        const uint32_t long_value[MOST_WORDS - 1] = {11, 12, 13, 14, 15, 16, 17, 18};
+        for (size_t i = CONTENTS; i < s.image; i++) {
+            s.working[i] = 1000 + (uint32_t)i;
+            s.persistent[i] = 2000 + (uint32_t)i;
+        }
+        same("begin", board_begin(STORE(&s), 0), 0);
+        for (uint32_t key = 1; key <= JOBS; key++)
+            same("new", board_new(STORE(&s), 0, key, long_value, words - 1), 0);
+        same("end", board_end(STORE(&s), 0), 0);
+        same("the clock is 3", board_advance(STORE(&s)), BOARD_TICKED);
+        for (size_t slot = 0; slot < JOBS; slot++) {
+            line_stored("contents", &s, CONTENTS + words * slot, words);
+            line_stored("a header", &s, PREFIX + HEADER_WORDS * slot, HEADER_WORDS);
+        }
+        same("the clock is 4", board_advance(STORE(&s)), BOARD_TICKED);
+        same("the survivors", survivors(&s), JOBS);
+        free_store(&s);
+    }
+}
+
 int main(void)
 {
     struct store s = new_store(SLOTS, WORDS, THREADS);
@@ -145,6 +184,7 @@ int main(void)
     header_torn(&s);
     header_out_of_range(&s);
     free_store(&s);
+    lines_of_every_width();
     printf("%zu answers, %zu wrong\n", calls, failed);
     return failed > 0;
 }
