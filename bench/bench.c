@@ -14,7 +14,7 @@
 #include <string.h>
 #include <valgrind/callgrind.h>
 
-enum { WORDS = 4, VALUE_WORDS = WORDS - 1, THREADS = 4, MOST_COPIES = 64, MOST_ROUNDS = 400 };
+enum { WORDS = 4, VALUE_WORDS = WORDS - 1, MOST_VALUE = 8, THREADS = 4, MOST_COPIES = 64, MOST_ROUNDS = 400 };
 enum { FIRST_WORD = 3 }; /* of an image: the first of a header */
 
 static const struct calls sides[] = {CALLS(board), CALLS(byhand)};
@@ -22,14 +22,14 @@ static const char *const side_names[] = {"library", "C"};
 
 /* A store, and the key and thread that the measured call takes. */
 struct bed {
-    uint32_t slots, key, thread;
+    uint32_t slots, words, key, thread;
     size_t image, notes;
     uint32_t *working, *persistent, *transient;
 };
 
 #define BED(b) (b)->working, (b)->image, (b)->persistent, (b)->image, (b)->transient, (b)->notes
 
-static const uint32_t value[VALUE_WORDS] = {7, 212, 555}, other_value[VALUE_WORDS] = {8, 213, 0};
+static const uint32_t value[MOST_VALUE] = {7, 212, 555, 1, 2, 3, 4, 5}, other_value[VALUE_WORDS] = {8, 213, 0};
 
 static void fail(const char *what)
 {
@@ -43,9 +43,9 @@ static void accepted(uint32_t refusal)
         fail(board_refusal_text(refusal));
 }
 
-static struct bed new_bed(uint32_t slots)
+static struct bed new_bed_of(uint32_t slots, uint32_t words)
 {
-    struct bed b = {.slots = slots, .image = board_image_words(slots, WORDS),
+    struct bed b = {.slots = slots, .words = words, .image = board_image_words(slots, words),
                     .notes = board_transient_words(slots, THREADS)};
     b.working = malloc((2 * b.image + b.notes) * sizeof *b.working);
     if (b.working == NULL)
@@ -54,6 +54,8 @@ static struct bed new_bed(uint32_t slots)
     b.transient = b.persistent + b.image;
     return b;
 }
+
+static struct bed new_bed(uint32_t slots) { return new_bed_of(slots, WORDS); }
 
 static void copy_bed(struct bed *to, const struct bed *from)
 {
@@ -73,14 +75,14 @@ static void sync_bed(struct bed *b)
         fail("sync declined");
 }
 
-static void format_bed(struct bed *b) { accepted(board_format(BED(b), b->slots, WORDS)); }
+static void format_bed(struct bed *b) { accepted(board_format(BED(b), b->slots, b->words)); }
 static void begin(struct bed *b) { accepted(board_begin(BED(b), 0)); }
 static void end(struct bed *b) { accepted(board_end(BED(b), 0)); }
 
 static void new_jobs(struct bed *b, uint32_t first, uint32_t count)
 {
     for (uint32_t key = first; key < first + count; key++)
-        accepted(board_new(BED(b), 0, key, value, VALUE_WORDS));
+        accepted(board_new(BED(b), 0, key, value, b->words - 1));
 }
 
 /* So many jobs of an old epoch. */
@@ -170,6 +172,31 @@ static void at_work(struct bed *b)
     }
 }
 
+static void advance_bed(struct bed *b, uint64_t reply)
+{
+    if (board_advance(BED(b)) != reply)
+        fail("an advance has another reply than the measure is made for");
+}
+
+/* An advance is underway: the first slot of the waiting list is stored, and the contents of the second are next. */
+static void contents_next(struct bed *b)
+{
+    format_bed(b);
+    begin(b);
+    new_jobs(b, 1, b->slots / 2);
+    end(b);
+    advance_bed(b, BOARD_TICKED);
+    advance_bed(b, BOARD_STORED);
+    advance_bed(b, BOARD_STORED);
+}
+
+/* .. and its header is. */
+static void header_next(struct bed *b)
+{
+    contents_next(b);
+    advance_bed(b, BOARD_STORED);
+}
+
 /* Half the slots hold jobs, and changes are made durable one by one. */
 static void settled(struct bed *b)
 {
@@ -249,6 +276,7 @@ static uint64_t do_advance(const struct calls *c, struct bed *b)
     return lines;
 }
 
+static uint64_t do_step(const struct calls *c, struct bed *b) { return c->advance(BED(b)); }
 static uint64_t do_sync(const struct calls *c, struct bed *b) { return c->sync(BED(b)); }
 
 static uint64_t do_durable(const struct calls *c, struct bed *b)
@@ -278,27 +306,32 @@ static const struct measure {
     uint64_t (*run)(const struct calls *, struct bed *);
     bool per_reply;  /* the cost is for each line or call that the reply counts */
     uint64_t wanted; /* the reply, where it is the same at every size */
+    uint32_t words;  /* W, where it is not WORDS */
 } measures[] = {
-    {"new", half_full_open, do_new, false, 0},
-    {"set in place", young, do_set, false, 0},
-    {"set by a new version", half_full_open, do_set, false, 0},
-    {"delete", half_full_open, do_delete, false, 0},
-    {"40 new, a call each, per change", round_of_new, do_calls, true, UINT64_MAX},
-    {"40 new, one batch, per change", round_of_new, do_batch, true, UINT64_MAX},
-    {"40 changes, a call each, per change", round_of_all, do_calls, true, UINT64_MAX},
-    {"40 changes, one batch, per change", round_of_all, do_batch, true, UINT64_MAX},
-    {"read, present", half_full, do_read, false, UINT64_MAX},
-    {"read, absent", half_full, do_read_absent, false, BOARD_REFUSED + BOARD_NO_JOB},
-    {"read, board full", full, do_read_odd, false, UINT64_MAX},
-    {"append", half_queue_open, do_append, false, UINT64_MAX},
-    {"take", half_queue_open, do_take, false, 0},
-    {"look", half_queue, do_look, false, UINT64_MAX},
-    {"advance, per line", at_work, do_advance, true, UINT64_MAX},
-    {"sync, per line", at_work, do_sync, true, UINT64_MAX},
-    {"durable change", settled, do_durable, false, UINT64_MAX},
-    {"recovery, nothing to free", full, do_recover, false, 1},
-    {"recovery, 1 slot in 8 to free", full_cut, do_recover, false, UINT64_MAX},
-    {"board_survivors", full, do_survivors, false, UINT64_MAX},
+    {"new", half_full_open, do_new, false, 0, 0},
+    {"set in place", young, do_set, false, 0, 0},
+    {"set by a new version", half_full_open, do_set, false, 0, 0},
+    {"delete", half_full_open, do_delete, false, 0, 0},
+    {"40 new, a call each, per change", round_of_new, do_calls, true, UINT64_MAX, 0},
+    {"40 new, one batch, per change", round_of_new, do_batch, true, UINT64_MAX, 0},
+    {"40 changes, a call each, per change", round_of_all, do_calls, true, UINT64_MAX, 0},
+    {"40 changes, one batch, per change", round_of_all, do_batch, true, UINT64_MAX, 0},
+    {"read, present", half_full, do_read, false, UINT64_MAX, 0},
+    {"read, absent", half_full, do_read_absent, false, BOARD_REFUSED + BOARD_NO_JOB, 0},
+    {"read, board full", full, do_read_odd, false, UINT64_MAX, 0},
+    {"append", half_queue_open, do_append, false, UINT64_MAX, 0},
+    {"take", half_queue_open, do_take, false, 0, 0},
+    {"look", half_queue, do_look, false, UINT64_MAX, 0},
+    {"advance, per line", at_work, do_advance, true, UINT64_MAX, 0},
+    {"advance that stores contents, W 2", contents_next, do_step, false, BOARD_STORED, 2},
+    {"advance that stores contents, W 4", contents_next, do_step, false, BOARD_STORED, 4},
+    {"advance that stores contents, W 9", contents_next, do_step, false, BOARD_STORED, 9},
+    {"advance that stores a header", header_next, do_step, false, BOARD_STORED, 0},
+    {"sync, per line", at_work, do_sync, true, UINT64_MAX, 0},
+    {"durable change", settled, do_durable, false, UINT64_MAX, 0},
+    {"recovery, nothing to free", full, do_recover, false, 1, 0},
+    {"recovery, 1 slot in 8 to free", full_cut, do_recover, false, UINT64_MAX, 0},
+    {"board_survivors", full, do_survivors, false, UINT64_MAX, 0},
 };
 enum { MEASURES = sizeof measures / sizeof *measures };
 static const uint32_t sizes[] = {16, 128, 1024};
@@ -340,7 +373,8 @@ static double per_unit(const struct measure *m, double cost, const uint64_t *rep
 static uint64_t measure(const struct measure *m, uint32_t slots, bool timed)
 {
     static double cost[2][MOST_ROUNDS], ratio[MOST_ROUNDS];
-    struct bed base = new_bed(slots), beds[2][MOST_COPIES];
+    uint32_t words = m->words == 0 ? WORDS : m->words;
+    struct bed base = new_bed_of(slots, words), beds[2][MOST_COPIES];
     uint64_t replies[2][MOST_COPIES];
     int copies = slots <= 16 ? 64 : slots <= 128 ? 16 : 4, rounds = 0;
     if (slots == 1024 && m->prepare == full_cut)
@@ -348,7 +382,7 @@ static uint64_t measure(const struct measure *m, uint32_t slots, bool timed)
     m->prepare(&base);
     for (int side = 0; side < 2; side++)
         for (int i = 0; i < copies; i++) {
-            beds[side][i] = new_bed(slots);
+            beds[side][i] = new_bed_of(slots, words);
             beds[side][i].key = key_of_copy(slots, i);
         }
     double start = seconds(), limit = timed ? 1.0 : 0;
@@ -412,7 +446,7 @@ static void random_image(struct bed *b)
 /* Both sides count the survivors and recover to the end: the answer. */
 static uint64_t compare_image(struct bed beds[2])
 {
-    static const struct measure recovery = {"recovery of a random image", NULL, do_recover, false, UINT64_MAX};
+    static const struct measure recovery = {"recovery of a random image", NULL, do_recover, false, UINT64_MAX, 0};
     uint64_t replies[2];
     random_image(&beds[0]);
     copy_bed(&beds[1], &beds[0]);
@@ -448,7 +482,6 @@ static void compare_images(void)
 
 static uint64_t do_begin(const struct calls *c, struct bed *b) { return c->begin(BED(b), b->thread); }
 static uint64_t do_end(const struct calls *c, struct bed *b) { return c->end(BED(b), b->thread); }
-static uint64_t do_step(const struct calls *c, struct bed *b) { return c->advance(BED(b)); }
 
 static uint64_t do_make(const struct calls *c, struct bed *b)
 {
@@ -461,7 +494,7 @@ static void compare_call(struct bed beds[2])
     static uint64_t (*const some[])(const struct calls *, struct bed *) = {
         do_begin, do_begin, do_end, do_end, do_make, do_make, do_set, do_set, do_delete, do_delete, do_read, do_append,
         do_take, do_look, do_step, do_step, do_step, do_step, do_batch, do_sync};
-    struct measure call = {"a call of a random run", NULL, some[below(sizeof some / sizeof *some)], false, UINT64_MAX};
+    struct measure call = {"a call of a random run", NULL, some[below(sizeof some / sizeof *some)], false, UINT64_MAX, 0};
     uint32_t keys = beds[0].slots, key = 1 + below(keys), thread = below(3);
     uint64_t replies[2];
     if (below(100) == 0)
@@ -504,7 +537,8 @@ static void compare_runs(void)
 static void count(const struct measure *m, uint32_t slots)
 {
     char name[128];
-    struct bed base = new_bed(slots), bed = new_bed(slots);
+    uint32_t words = m->words == 0 ? WORDS : m->words;
+    struct bed base = new_bed_of(slots, words), bed = new_bed_of(slots, words);
     int copies = slots == 1024 && m->prepare == full_cut ? 1 : 16;
     m->prepare(&base);
     for (int side = 0; side < 2; side++) {
