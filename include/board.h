@@ -116,7 +116,7 @@
 /* The version of this header. */
 #define BOARD_VERSION_MAJOR 0
 #define BOARD_VERSION_MINOR 7
-#define BOARD_VERSION_PATCH 0
+#define BOARD_VERSION_PATCH 1
 #define BOARD_VERSION (BOARD_VERSION_MAJOR * 10000 + BOARD_VERSION_MINOR * 100 + BOARD_VERSION_PATCH)
 
 /* Before a call whose answer can be a refusal: the compiler warns where it is not looked at. */
