@@ -12,6 +12,7 @@ pub mod Over
 pub mod InPlace
 pub mod Turn
 pub mod Unmake
+pub mod Resave
 pub mod Reclaim
 pub mod Lines
 pub mod Places

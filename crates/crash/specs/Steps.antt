@@ -1,4 +1,4 @@
--- The changes of state: six by calls, four by advance, two lines written back. Each record has what is known when it is made.
+-- The changes of state: seven by calls, four by advance, two lines written back. Each record has what is known when it is made.
 use Prim.Native.Nat.{ℕ, suc, _+_, _≤_, _<_}
 use mathlib.Core.Path.{_≡_}
 use mathlib.Core.Logic.{_≢_, _⊎_, _↔_}
@@ -81,7 +81,7 @@ pub record Joins (c e now before : ℕ) (a : Slot) : Type 0 where
   pub joins-now : e ≡ c → 1 ≤ now
   pub joins-before : e + 1 ≡ c → 1 ≤ before
 
--- ---- the six changes by calls
+-- ---- the seven changes by calls
 -- a new ALLOC in slot s; `order` is the next order number after it
 pub record New (e s order : ℕ) (k : Name) (v : Value) (now before : ℕ) (st : State) (g : ℕ → Slot) : Type 0 where
   pub operation : Operation e st
@@ -141,6 +141,11 @@ pub record InPlace (x : Entry) (e r : ℕ) (now before : ℕ) (st : State) (g : 
 pub record Unmake (e r : ℕ) (now before : ℕ) (st : State) (g : ℕ → Slot) : Type 0 where
   pub change : InPlace (freed (st .slots r .working)) e r now before st g
   pub alloc : st .slots r .working .kind ≡ 1
+
+-- a set of the value that the live version has, without a slot for it: the row alone has one entry more
+pub record Resave (e r : ℕ) (st : State) : Type 0 where
+  pub of : Current e r st
+  pub begun : st .slots r .working .epoch ≤ e
 
 -- ---- the four by advance
 -- a payload retired in c - 2, or a DELETE of c - 3, becomes free in both images

@@ -1,6 +1,7 @@
--- Set and delete keep the invariant: in the version's own slot, or by a later version. What is said of a delete holds of any name.
+-- Set and delete keep the invariant: in the version's own slot, by a later version, or with nothing changed. What is said of a delete holds
+-- of any name.
 use Prim.Native.Nat.{ℕ, _+_, _-_, _≤_, _<_}
-use mathlib.Core.Path.{_≡_, refl, sym}
+use mathlib.Core.Path.{_≡_, refl, sym, ap, _∙_}
 use mathlib.Core.Bool.{true, false}
 use mathlib.Core.Logic.{_≢_, ⊎-elim}
 use mathlib.Core.List.{List}
@@ -12,19 +13,23 @@ use native.Mathlib.Omega.{arith}
 use Rattle.search.specs.Bools.{cases}
 use Rattle.reply.specs.declared.Refusal.the-variants.{Newer, NoJob}
 use Rattle.image.specs.Layout.{header, contents, keyAt, freeHeader, antiHeader}
-use Rattle.image.specs.Laws.{key-contents}
+use Rattle.image.specs.Requires.{slot}
+use Rattle.image.specs.Laws.{key-contents, value-contents}
 use Rattle.image.specs.declared.name.Name.{Name}
 use Rattle.image.specs.Name.{nameOf, jobName}
 use Rattle.transient.specs.declared.sizes.Sizes.{Sizes}
 use Rattle.transient.specs.Layout.{note, lastAt, openEpoch, retiredIn}
 use Rattle.transient.specs.Store.{Store, store, table}
+use Rattle.transient.specs.Calls.{accepted}
+use Rattle.transient.specs.Laws.{front-same}
 use Rattle.table.specs.declared.find.Lookup.{Lookup}
 use Rattle.table.specs.declared.find.Lookup.the-variants as look
 use Rattle.table.specs.Find.{lookup}
 use Rattle.jobs.specs.Job.{Job, job, badJob}
 use Rattle.jobs.specs.Laws.{job-words}
-use Rattle.job_set.specs.Set.{setAt, setJob}
-use Rattle.job_set.specs.Stages.{rewritten, updated, set-at-is, setLooked, setOpened, setSized}
+use Rattle.job_set.specs.Set.{setAt, sameValue, setLive, setJob}
+use Rattle.job_set.specs.Stages.{rewritten, updated, set-at-is, live-way, setLooked, setOpened, setSized}
+use Rattle.job_set.specs.Same.{same-says}
 use Rattle.job_delete.specs.Delete.{deleteAt, deleteJob}
 use Rattle.job_delete.specs.Stages.{freedAt, turned, covered, delete-at-is, deleteLooked, deleteOpen, deleteSized}
 use Rattle.crash.specs.Table.{Put}
@@ -35,6 +40,7 @@ use Rattle.crash.specs.Steps.{entry, Current, Joins, InPlace}
 use Rattle.crash.specs.InPlace.{set-inv}
 use Rattle.crash.specs.Turn.{turn-inv}
 use Rattle.crash.specs.Unmake.{unmake-inv}
+use Rattle.crash.specs.Resave.{resave-inv}
 use Rattle.guarantee.specs.Trace.{Plain, toldChange}
 use Rattle.guarantee.specs.View.{view, slotOf, view-in}
 use Rattle.guarantee.specs.Good.{stateOf, Good}
@@ -137,6 +143,18 @@ module _ {sz : Sizes} {start : Jobs} {wk l tr : List ℕ} {p : Plain} (thread : 
         let long : length zeros + 1 ≡ sz .w = omega (arith, length-replicate {A = ℕ} (sz .w - 1) 0, g .working .sized .sizes .width-lo) in
         super-fine thread name s (steps.removes zeros) g within begun long lives older owes 1 h
 
+  -- ---- the value that it has, again: the row alone has one entry more
+  resaved-fine : old .working .epoch ≤ e → (v : Value) → length v + 1 ≡ sz .w → sameValue sz wk s v ≡ true → Fine sz start l p thread name (some v) (accepted (table wk tr))
+  resaved-fine latest v long same =
+      let x : v ≡ old .working .value =
+      same-says (record { slot = slot (g .working .sized) (lives .below); words = omega arith }) same
+      ∙ value-contents wk (sz .n) (sz .w) s (omega arith) ∙ sym (ap (λ (a : Slot). a .working .value) at-slot) in
+      record {
+        good = good-change g (g .working) (front-same .head) refl refl (g .index)
+            (row-epoch g thread name (some v) within) (fifo-after g e name (some v) (λ b. value-owes b))
+            (rw (lives .named, ← x) at (resave-inv (g .inv) record { of = current; begun = latest }));
+      }
+
   -- ---- the job of the name goes away
   pub gone-fine : old .working .epoch ≤ e → Owes g e name none → note lastAt tr < sz .n → Fine sz start l p thread name none (deleteAt sz (table wk tr) e s (name .key))
   gone-fine latest owes last =
@@ -155,14 +173,22 @@ module _ {sz : Sizes} {start : Jobs} {wk l tr : List ℕ} {p : Plain} (thread : 
   abbrev ep : ℕ
   ep = openEpoch tr thread
 
-  set-at-fine : (s : ℕ) (j : Job) → length (j .value) + 1 ≡ sz .w → Holding sz (table wk tr) (jobName (j .key)) ep s
+  set-at-fine : (s : ℕ) (j : Job) → length (j .value) + 1 ≡ sz .w → Lives g (jobName (j .key)) s → view (store wk l tr) sz (p .clock) s .working .epoch ≤ ep
       → Fine sz start l p thread (jobName (j .key)) (some (j .value)) (setAt sz (table wk tr) ep s j)
-  set-at-fine s j long h =
-      let lives = live-of g (h .found) in
+  set-at-fine s j long lives latest =
       ⊎-elim
       (λ (a : eqb (header wk s .epoch) ep ≡ true). rw (set-at-is sz (table wk tr) ep s j, a) (rewritten-fine thread (jobName (j .key)) s g within begun lives (eqb-true _ _ a) (j .value) long))
-      (λ (a : eqb (header wk s .epoch) ep ≡ false). rw (set-at-is sz (table wk tr) ep s j, a) (updated-fine thread (jobName (j .key)) s g within begun lives (no-later-of g (h .newest) s (lives .payload .0) (lives .named)) (eqb-false _ _ a) last (j .value) long))
+      (λ (a : eqb (header wk s .epoch) ep ≡ false). rw (set-at-is sz (table wk tr) ep s j, a) (updated-fine thread (jobName (j .key)) s g within begun lives latest (eqb-false _ _ a) last (j .value) long))
       (cases (eqb (header wk s .epoch) ep))
+
+  set-live-fine : (s : ℕ) (j : Job) → length (j .value) + 1 ≡ sz .w → Holding sz (table wk tr) (jobName (j .key)) ep s
+      → Fine sz start l p thread (jobName (j .key)) (some (j .value)) (setLive sz (table wk tr) ep s j)
+  set-live-fine s j long h =
+      let lives = live-of g (h .found) in
+      let latest = no-later-of g (h .newest) s (lives .payload .0) (lives .named) in
+      live-way (Fine sz start l p thread (jobName (j .key)) (some (j .value))) sz (table wk tr) ep s j
+      (λ q same. resaved-fine thread (jobName (j .key)) s g within begun lives latest (j .value) long same)
+      (set-at-fine s j long lives latest)
 
   pub set-opened-fine : (j : Job) → length (j .value) + 1 ≡ sz .w → Fine sz start l p thread (jobName (j .key)) (some (j .value)) (setOpened sz (table wk tr) j ep)
   unfolding setOpened
@@ -170,7 +196,7 @@ module _ {sz : Sizes} {start : Jobs} {wk l tr : List ℕ} {p : Plain} (thread : 
     where
       go : (k : Lookup) → lookup sz (table wk tr) (jobName (j .key)) ep ≡ k → Fine sz start l p thread (jobName (j .key)) (some (j .value)) (setLooked k sz (table wk tr) ep j)
       go look.Later q = fine-refused g Newer
-      go (look.Live s) q = set-at-fine s j long (live-says sz (table wk tr) (jobName (j .key)) ep q)
+      go (look.Live s) q = set-live-fine s j long (live-says sz (table wk tr) (jobName (j .key)) ep q)
       go look.Absent q = fine-refused g NoJob
 
   delete-at-fine : (s key : ℕ) → Holding sz (table wk tr) (jobName key) ep s → Fine sz start l p thread (jobName key) none (deleteAt sz (table wk tr) ep s key)

@@ -37,8 +37,8 @@ use Rattle.jobs.specs.Laws.{declines-way, job-words}
 use Rattle.job_new.specs.New.{newAbsent, newJob}
 use Rattle.job_new.specs.Stages.{newAt, newIn, new-absent-is, newLooked, newOpen}
 use Rattle.job_new.specs.Again.{new-kept}
-use Rattle.job_set.specs.Set.{setAt, setJob}
-use Rattle.job_set.specs.Stages.{updated, set-at-is, setLooked, setOpened}
+use Rattle.job_set.specs.Set.{setAt, setLive, setJob}
+use Rattle.job_set.specs.Stages.{updated, set-at-is, live-way, setLooked, setOpened}
 use Rattle.job_set.specs.Again.{set-kept}
 use Rattle.job_delete.specs.Delete.{deleteAt, deleteJob}
 use Rattle.job_delete.specs.Stages.{covered, delete-at-is, deleteLooked, deleteOpen}
@@ -115,6 +115,9 @@ module _ {wk tr : List ℕ} {z : Sizes} (y : Entered wk tr z) (i : Indexed z wk 
         (λ (a : eqb (header wk s .epoch) e ≡ false). rw (set-at-is z tb e s (job key value), a) (super-stays 2 2 value (omega arith) (omega arith) long))
         (cases (eqb (header wk s .epoch) e))
 
+    set-live-stays : (value : List ℕ) → length value + 1 ≡ z .w → Stays z (setLive z tb e s (job key value))
+    set-live-stays value long = live-way (Stays z) z tb e s (job key value) (λ p q. i) (set-at-stays value long)
+
     covered-stays : Stays z (covered z tb e s key)
     unfolding covered
     covered-stays =
@@ -139,7 +142,7 @@ module _ {wk tr : List ℕ} {z : Sizes} (y : Entered wk tr z) (i : Indexed z wk 
     where
       go : (k : Lookup) → lookup z tb (jobName (j .key)) e ≡ k → Stays z (setLooked k z tb e j)
       go Later q = i
-      go (Live s) q = set-at-stays (j .key) s q (j .value) (job-long j c)
+      go (Live s) q = set-live-stays (j .key) s q (j .value) (job-long j c)
       go Absent q = i
 
   delete-stays : (key : ℕ) → Stays z (deleteOpen z tb key e)

@@ -12,13 +12,13 @@ use lib.ListN.{length}
 use lib.Dec.{leb, eqb}
 use Rattle.search.specs.First.{whereFound}
 use Rattle.reply.specs.declared.Check.{Check}
-use Rattle.reply.specs.declared.Check.the-variants.{Accepted, Refused}
+use Rattle.reply.specs.declared.Check.the-variants.{Refused}
 use Rattle.reply.specs.declared.Refusal.the-variants.{NoThread, BadArgument, NoJob, JobExists}
 use Rattle.reply.specs.Refusals.{byCheck}
 use Rattle.image.specs.Name.{jobName}
 use Rattle.transient.specs.declared.sizes.Sizes.{Sizes}
 use Rattle.transient.specs.Layout.{openEpoch}
-use Rattle.transient.specs.Store.{Store, Table, tableOf, sizesOf, Outcome, afterCheck}
+use Rattle.transient.specs.Store.{Store, Table, tableOf, sizesOf, Outcome}
 use Rattle.transient.specs.Entry.{entryCheck}
 use Rattle.transient.specs.Calls.{Changed, refused}
 use Rattle.index.specs.Indexed.{Indexed}
@@ -26,13 +26,14 @@ use Rattle.table.specs.declared.find.Lookup.{Lookup}
 use Rattle.table.specs.declared.find.Lookup.the-variants.{Live, Absent}
 use Rattle.table.specs.Walk.{walkLive, walkLookup, live-walks, lookup-walks}
 use Rattle.jobs.specs.Job.{Job, badJob}
-use Rattle.jobs.specs.Way.{wayIn, onFound, onJob}
+use Rattle.jobs.specs.Way.{onFound, onJob}
 use Rattle.job_new.specs.New.{newAbsent, newJob}
-use Rattle.job_set.specs.Set.{setAt, setJob}
+use Rattle.job_set.specs.Set.{setLive, setJob}
 use Rattle.job_delete.specs.Delete.{deleteAt, deleteJob}
 use Rattle.job_batch.specs.declared.Batch.{Batch}
-use Rattle.job_batch.specs.Batch.{changeAt, kindOf, jobOf, changeJob, changesFrom, badList, wayCheck, batchJobs}
+use Rattle.job_batch.specs.Batch.{changeAt, kindOf, jobOf, changeJob, changesFrom, batchJobs}
 use Rattle.job_batch.specs.Stages.{byKind, ended}
+use Rattle.job_batch.specs.By.{changesBy, batchBy}
 use Rattle.job_read.specs.declared.Reading.{Reading}
 use Rattle.job_read.specs.declared.Reading.the-variants as reading
 use Rattle.job_read.specs.Read.{readSized, readJob}
@@ -52,27 +53,18 @@ abbrev pub newWalk : Store → ℕ → Job → Outcome Check
 newWalk st thread j = onWalk st thread (j .key) (λ z. badJob z j) (λ z tb e s. refused JobExists tb) (λ z tb e. newAbsent z tb e j)
 
 abbrev pub setWalk : Store → ℕ → Job → Outcome Check
-setWalk st thread j = onWalk st thread (j .key) (λ z. badJob z j) (λ z tb e s. setAt z tb e s j) (λ z tb e. refused NoJob tb)
+setWalk st thread j = onWalk st thread (j .key) (λ z. badJob z j) (λ z tb e s. setLive z tb e s j) (λ z tb e. refused NoJob tb)
 
 abbrev pub deleteWalk : Store → ℕ → ℕ → Outcome Check
 deleteWalk st thread key = onWalk st thread key (λ z. eqb key 0) (λ z tb e s. deleteAt z tb e s key) (λ z tb e. refused NoJob tb)
 
--- as `changeJob`, `changesFrom` and `batchJobs`, of these
+-- as `changeJob` and `batchJobs`, of these
 abbrev pub changeWalk : Store → ℕ → List ℕ → Outcome Check
 changeWalk st thread c =
     byKind (kindOf c) (newWalk st thread (jobOf c)) (setWalk st thread (jobOf c)) (deleteWalk st thread (jobOf c .key)) (record { reply = Refused BadArgument; store = st })
 
-unfoldable pub changesWalk : Sizes → ℕ → List ℕ → ℕ → ℕ → Store → Outcome Batch
-changesWalk z thread list k zero st = ended k Accepted st
-changesWalk z thread list k (suc more) st =
-    let o = changeWalk st thread (changeAt z list k) in
-    byCheck (o .reply) (λ r. ended k (Refused r) (o .store)) (changesWalk z thread list (suc k) more (o .store))
-
 abbrev pub batchWalk : Store → ℕ → List ℕ → Outcome Batch
-batchWalk st thread list =
-    let z = sizesOf (tableOf st) in
-    afterCheck (byCheck (entryCheck st) Refused (wayCheck (wayIn z (st .transient) thread (badList z list)))) (λ r. record { accepted = 0; ended = Refused r }) st
-    (changesWalk z thread list 0 (length list / (z .w + 1)) st)
+batchWalk st thread list = batchBy (λ s c. changeWalk s thread c) st thread list
 
 -- as `readSized` and `readJob`
 abbrev pub readWalk : Store → ℕ → ℕ → Reading
@@ -107,7 +99,7 @@ module _ {z : Sizes} (st : Store) (x : Right z st) (thread : ℕ) where
 
   set-walks : (j : Job) → setJob st thread j ≡ setWalk st thread j
   unfolding setJob
-  set-walks j = found-walks (j .key) (λ z. badJob z j) (λ z tb e s. setAt z tb e s j) (λ z tb e. refused NoJob tb)
+  set-walks j = found-walks (j .key) (λ z. badJob z j) (λ z tb e s. setLive z tb e s j) (λ z tb e. refused NoJob tb)
 
   delete-walks : (key : ℕ) → deleteJob st thread key ≡ deleteWalk st thread key
   unfolding deleteJob
@@ -122,8 +114,8 @@ module _ {z : Sizes} (st : Store) (x : Right z st) (thread : ℕ) where
   read-walks key = rw (live-walks right-index (jobName key), lookup-walks right-index (jobName key) (openEpoch (st .transient) thread))
 
 -- an accepted change leaves a right index to the next one
-changes-walk : {z : Sizes} (thread : ℕ) (list : List ℕ) (k more : ℕ) (st : Store) → Right z st → changesFrom z thread list k more st ≡ changesWalk z thread list k more st
-unfolding changesFrom changesWalk
+changes-walk : {z : Sizes} (thread : ℕ) (list : List ℕ) (k more : ℕ) (st : Store) → Right z st → changesFrom z thread list k more st ≡ changesBy (λ s c. changeWalk s thread c) z list k more st
+unfolding changesFrom changesBy
 changes-walk thread list k zero st x = refl
 changes-walk {z} thread list k (suc more) st x =
     let c = changeAt z list k in

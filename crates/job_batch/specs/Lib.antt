@@ -3,5 +3,7 @@ pub mod Stages
 pub mod Ways
 pub mod Requires
 pub mod OneByOne
+pub mod By
+pub mod Before
 pub mod Keeps
 pub mod Exits

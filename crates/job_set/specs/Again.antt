@@ -18,8 +18,8 @@ use Rattle.table.specs.declared.find.Lookup.the-variants.{Later, Live, Absent}
 use Rattle.table.specs.Find.{lookup}
 use Rattle.jobs.specs.Job.{Job}
 use Rattle.jobs.specs.Again.{waiting-kept, value-kept, super-kept}
-use Rattle.job_set.specs.Set.{setAt}
-use Rattle.job_set.specs.Stages.{rewritten, updated, set-at-is, setLooked, setOpened}
+use Rattle.job_set.specs.Set.{setAt, setLive}
+use Rattle.job_set.specs.Stages.{rewritten, updated, set-at-is, live-way, setLooked, setOpened}
 
 module _ {wk tr : List ℕ} {z : Sizes} (y : Entered wk tr z) (e : ℕ) (j : Job) where
   abbrev Kept : Changed → Type 0
@@ -33,9 +33,13 @@ module _ {wk tr : List ℕ} {z : Sizes} (y : Entered wk tr z) (e : ℕ) (j : Job
       (λ (a : eqb (header wk s .epoch) e ≡ false). rw (set-at-is z (table wk tr) e s j, a) (super-kept y 2 e s _ _ _))
       (cases (eqb (header wk s .epoch) e))
 
+  -- the same value again leaves all as it was
+  live-kept : (s : ℕ) → Kept (setLive z (table wk tr) e s j)
+  live-kept s = live-way Kept z (table wk tr) e s j (λ p q. table-kept y) (at-kept s)
+
   looked-kept : (k : Lookup) → Kept (setLooked k z (table wk tr) e j)
   looked-kept Later = table-kept y
-  looked-kept (Live s) = at-kept s
+  looked-kept (Live s) = live-kept s
   looked-kept Absent = table-kept y
 
   pub set-kept : Kept (setOpened z (table wk tr) j e)

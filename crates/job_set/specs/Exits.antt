@@ -1,7 +1,7 @@
 -- The ways out of this crate's functions.
 use Prim.Native.Nat.{ℕ}
 use mathlib.Core.Path.{_≡_}
-use mathlib.Core.Bool.{Bool}
+use mathlib.Core.Bool.{Bool, true, false}
 use mathlib.Core.List.{List, _∷_}
 use borrow.Author.Tests.{eq-eqb, ne-eqb}
 use Rattle.search.specs.declared.Found.{Found}
@@ -31,8 +31,8 @@ use Rattle.jobs.specs.Job.{Job, badJob}
 use Rattle.jobs.specs.Way.{wayIn}
 use Rattle.jobs.specs.Requires.{reaching}
 use Rattle.jobs.specs.Laws.{way-valued, way-declined, way-open}
-use Rattle.job_set.specs.Set.{setAt, setJob}
-use Rattle.job_set.specs.Stages.{rewritten, updated, set-at-is, setOpened, setSized}
+use Rattle.job_set.specs.Set.{sameValue, setLive, setJob}
+use Rattle.job_set.specs.Stages.{rewritten, resaved, renewed, set-live-is, setOpened, setSized}
 
 module _ (z : Sizes) (tb : Table) (e s : ℕ) where
   pub rewrite-done : (value : List ℕ) {wk tr : List ℕ} → wk ≡ setValue z (tb .working) s value → tr ≡ setWaiting z (tb .transient) e s → changed Accepted wk tr ≡ rewritten z tb e s value
@@ -40,21 +40,31 @@ module _ (z : Sizes) (tb : Table) (e s : ℕ) where
   rewrite-done value p q = rw (p, q)
 
   module _ (j : Job) {g : Header} {x : Changed} (at : g ≡ header (tb .working) s) where
-    pub set-same : g .epoch ≡ e → x ≡ rewritten z tb e s (j .value) → x ≡ setAt z tb e s j
-    set-same d p = rw (set-at-is z tb e s j, ← at, eq-eqb (g .epoch) e d) p
+    pub set-same : g .epoch ≡ e → x ≡ rewritten z tb e s (j .value) → x ≡ setLive z tb e s j
+    set-same d p = rw (set-live-is z tb e s j, ← at, eq-eqb (g .epoch) e d) p
 
-    pub set-older : (g .epoch ≡ e → ⊥) → x ≡ updated z tb e s j → x ≡ setAt z tb e s j
-    set-older d p = rw (set-at-is z tb e s j, ← at, ne-eqb (g .epoch) e d) p
+    pub set-older : (g .epoch ≡ e → ⊥) → x ≡ renewed z tb e s j → x ≡ setLive z tb e s j
+    set-older d p = rw (set-live-is z tb e s j, ← at, ne-eqb (g .epoch) e d) p
 
--- 13
+-- the same value again, or 13
+module _ (z : Sizes) (wk : List ℕ) (s : ℕ) (value : List ℕ) {b : Bool} (same : b ≡ sameValue z wk s value) where
+  pub resave-same : b ≡ true → Accepted ≡ resaved z wk s value
+  unfolding resaved
+  resave-same a = rw (← same, a)
+
+  pub resave-full : b ≡ false → Refused Full ≡ resaved z wk s value
+  unfolding resaved
+  resave-full a = rw (← same, a)
+
+-- by a new version, or without one
 module _ (z : Sizes) (tb : Table) (e s : ℕ) (j : Job) {f : Found} (fr : f ≡ room z tb 2) where
-  pub update-full : f ≡ Nothing → refused Full tb ≡ updated z tb e s j
-  unfolding updated
-  update-full a = rw (← fr, a)
+  pub update-none : {k : Check} → f ≡ Nothing → k ≡ resaved z (tb .working) s (j .value) → record { reply = k; table = tb } ≡ renewed z tb e s j
+  unfolding renewed
+  update-none a p = rw (← fr, a, p)
 
   pub update-done : {i : ℕ} {g h : Header} {wk tr : List ℕ} → f ≡ At i → g ≡ header (tb .working) s → h ≡ updatedHeader e g → wk ≡ filledSlot z (tb .working) i h (j .key ∷ j .value)
-      → tr ≡ setRetired z (taken z (tb .transient) e i (nameOf (h .board) (j .key))) s e → changed Accepted wk tr ≡ updated z tb e s j
-  unfolding updated
+      → tr ≡ setRetired z (taken z (tb .transient) e i (nameOf (h .board) (j .key))) s e → changed Accepted wk tr ≡ renewed z tb e s j
+  unfolding renewed
   update-done a at hd p q = rw (← fr, a, p, q, hd, at)
 
 -- 9 and 10
@@ -63,7 +73,7 @@ module _ (z : Sizes) (tb : Table) (e : ℕ) (j : Job) {k : Lookup} (lk : k ≡ l
   unfolding setOpened
   set-later a = rw (← lk, a)
 
-  pub set-live : {s : ℕ} {x : Changed} → k ≡ Live s → x ≡ setAt z tb e s j → x ≡ setOpened z tb j e
+  pub set-live : {s : ℕ} {x : Changed} → k ≡ Live s → x ≡ setLive z tb e s j → x ≡ setOpened z tb j e
   unfolding setOpened
   set-live a p = rw (← lk, a) p
 
@@ -94,4 +104,4 @@ module _ (wk l tr : List ℕ) (thread : ℕ) (j : Job) {k : Check} (c : k ≡ en
   unfolding setJob setSized setOpened
   set-enters a h = on-passed wk l tr c (setSized thread j) a h
 
-pub ruleset laws = (entered-notes, reaching, way-valued, rewrite-done, update-full, update-done, set-same, set-older, set-later, set-live, set-absent, set-declined, set-goes, set-sizes, set-refused, set-enters, passing)
+pub ruleset laws = (entered-notes, reaching, way-valued, rewrite-done, resave-same, resave-full, update-none, update-done, set-same, set-older, set-later, set-live, set-absent, set-declined, set-goes, set-sizes, set-refused, set-enters, passing)

@@ -11,10 +11,11 @@ ghost use mathlib.Core.Path.{_≡_};
 ghost use Rattle.transient.specs.Store.{store, table, sizesOf, outcome};
 ghost use Rattle.transient.specs.Calls.{changed};
 ghost use Rattle.transient.specs.Requires.{Entered};
+ghost use Rattle.table.specs.Requires.{SlotValue};
 ghost use Rattle.jobs.specs.Job.{job};
 ghost use Rattle.jobs.specs.Requires.{Valued, Held};
-ghost use Rattle.job_set.specs.Set.{setAt, setJob};
-ghost use Rattle.job_set.specs.Stages.{rewritten, updated, setOpened, setSized};
+ghost use Rattle.job_set.specs.Set.{sameValue, setLive, setJob};
+ghost use Rattle.job_set.specs.Stages.{rewritten, resaved, renewed, setOpened, setSized};
 
 fn rewrite(
     working: &mut [u32],
@@ -32,6 +33,36 @@ fn rewrite(
     Check::Accepted
 }
 
+// Does slot s hold this value?
+fn same_value(working: &[u32], z: Sizes, s: usize, value: &[u32]) -> bool
+    requires { ⌜ SlotValue (now working) z s (now value) ⌝ }
+    ensures { λ r. ⌜ r ≡ sameValue z (now (working .entry)) s (now (value .entry)) ⌝ }
+{
+    let b = image::contents::contents_at(z.n, z.w, s) + 1;
+    let words = z.w - 1;
+    let mut i = 0;
+    while i < words {
+        if value[i] == working[b + i] {
+            i += 1;
+        } else {
+            return false;
+        }
+    }
+    true
+}
+
+// No room for a new version: the value that slot s holds is accepted, and nothing changes.
+fn resave(working: &[u32], z: Sizes, s: usize, value: &[u32]) -> Check
+    requires { ⌜ SlotValue (now working) z s (now value) ⌝ }
+    ensures { λ r. ⌜ r ≡ resaved z (now (working .entry)) s (now (value .entry)) ⌝ }
+{
+    if same_value(working, z, s, value) {
+        Check::Accepted
+    } else {
+        Check::Refused(Refusal::Full)
+    }
+}
+
 // The new version takes a free slot, and the old one, in slot s, is retired in e.
 fn update(
     working: &mut [u32],
@@ -43,7 +74,7 @@ fn update(
     value: &[u32],
 ) -> Check
     requires { ⌜ Held (now working) (now transient) z s (now value) ⌝ }
-    ensures { λ r. ⌜ changed r (now (working .exit)) (now (transient .exit)) ≡ updated z (table (now (working .entry)) (now (transient .entry))) e s (job key (now (value .entry))) ⌝ }
+    ensures { λ r. ⌜ changed r (now (working .exit)) (now (transient .exit)) ≡ renewed z (table (now (working .entry)) (now (transient .entry))) e s (job key (now (value .entry))) ⌝ }
 {
     match table::find::room_for_two(working, transient, z) {
         Found::At(f) => {
@@ -56,11 +87,11 @@ fn update(
             jobs::supersede::note_superseded(transient, z, e, s, f, name);
             Check::Accepted
         }
-        Found::Nothing => Check::Refused(Refusal::Full),
+        Found::Nothing => resave(working, z, s, value),
     }
 }
 
-fn set_at(
+fn set_live(
     working: &mut [u32],
     transient: &mut [u32],
     z: Sizes,
@@ -70,7 +101,7 @@ fn set_at(
     value: &[u32],
 ) -> Check
     requires { ⌜ Held (now working) (now transient) z s (now value) ⌝ }
-    ensures { λ r. ⌜ changed r (now (working .exit)) (now (transient .exit)) ≡ setAt z (table (now (working .entry)) (now (transient .entry))) e s (job key (now (value .entry))) ⌝ }
+    ensures { λ r. ⌜ changed r (now (working .exit)) (now (transient .exit)) ≡ setLive z (table (now (working .entry)) (now (transient .entry))) e s (job key (now (value .entry))) ⌝ }
 {
     if image::header::header_at(working, z.n, s).epoch == e {
         rewrite(working, transient, z, e, s, value)
@@ -100,7 +131,7 @@ pub fn set_open(
     };
     match table::find::look_up(working, transient, anew, key, e) {
         Lookup::Later => Check::Refused(Refusal::Newer),
-        Lookup::Live(s) => set_at(working, transient, z, e, s, key, value),
+        Lookup::Live(s) => set_live(working, transient, z, e, s, key, value),
         Lookup::Absent => Check::Refused(Refusal::NoJob),
     }
 }

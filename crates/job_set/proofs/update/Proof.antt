@@ -10,11 +10,14 @@ update-spec =
     (tie.spec
     (λ c κs. search (needs, laws))
     (λ c. search (needs, laws))
+    -- room
     (λ c κs. search (needs, laws))
     (λ c κs. search (needs, laws))
     (λ c κs. search (needs, laws))
     (λ c κs. search (needs, laws))
     (λ c. search (needs, laws))
+    -- no room
+    (λ c κs. search (needs, laws))
     (λ c. search (needs, laws))
     (λ c. search (needs, laws))
     (λ c. search (needs, laws))

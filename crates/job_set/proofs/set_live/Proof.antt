@@ -1,11 +1,11 @@
--- `set_at`: each way out is a law.
+-- `set_live`: each way out is a law.
 use borrow.Author.Needs.{needs}
 use Rattle.job_set.specs.Exits.{laws}
-use Rattle.job_set.proofs.set_at.Statement.{statement}
-use Rattle.job_set.proofs.set_at.Tie as tie
+use Rattle.job_set.proofs.set_live.Statement.{statement}
+use Rattle.job_set.proofs.set_live.Tie as tie
 
-pub set-at-spec : {M : Type 1} → statement M
-set-at-spec =
+pub set-live-spec : {M : Type 1} → statement M
+set-live-spec =
     tie.close
     (tie.spec
     (λ c κs. search (needs, laws))
