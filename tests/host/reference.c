@@ -78,6 +78,14 @@ static bool will_be_there(const struct store *s, const struct call *call, size_t
     return there;
 }
 
+/* Now and then the value of the job of this key, where there is one. */
+static void same_again(uint64_t *random, const struct store *s, uint32_t thread, uint32_t key, uint32_t *value)
+{
+    uint64_t at = board_read(STORE(s), thread, key);
+    if (below(random, 3) == 0 && at < BOARD_REFUSED)
+        memcpy(value, s->working + at, (s->words - 1) * sizeof *value);
+}
+
 /* A few changes, often two of one job, most of them such that they are accepted on this store. An improper list has an
    unknown kind or is not of whole changes. */
 static void choose_list(uint64_t *random, const struct store *s, struct call *call, bool improper)
@@ -93,6 +101,8 @@ static void choose_list(uint64_t *random, const struct store *s, struct call *ca
         change[0] = will_be_there(s, call, i, change[1]) ? BOARD_SET + below(random, 2) : BOARD_NEW;
         if (below(random, 8) == 0)
             change[0] = BOARD_NEW + below(random, 3);
+        if (change[0] == BOARD_SET)
+            same_again(random, s, call->thread, change[1], change + 2);
     }
     if (improper && changes > 0 && below(random, 2) == 0)
         call->list[below(random, (uint32_t)changes) * call->change_words] = below(random, 2) == 0 ? 0 : 4;
@@ -113,6 +123,8 @@ struct call choose_call(uint64_t *random, const struct store *s, const uint32_t 
         call.value_words = below(random, s->words + 1);
     for (size_t i = 0; i < call.value_words; i++)
         call.value[i] = below(random, 4) == 0 ? 0 : (uint32_t)next(random);
+    if (call.kind == CALL_SET && !improper)
+        same_again(random, s, call.thread, call.key, call.value);
     if (call.kind == CALL_WRITE_BACK)
         call.position = choose_position(random, s);
     if (call.kind == CALL_BATCH)

@@ -36,13 +36,13 @@ enum { PAGE = 4096 };
 
 enum counted {
     CONTENTS, HEADER, FREED, TICK, RECOVERY_FREED, WRITTEN_BACK, MIXED, TORN, CUT_IN_CALL, CUT_IN_MIX, CUT_IN_RECOVERY,
-    CUT_BETWEEN, COUNTED
+    CUT_BETWEEN, SAVED_AGAIN, COUNTED
 };
 
 static const char *const counted_names[COUNTED] = {
     "contents", "headers", "freed headers", "clocks", "headers freed by recovery", "words written back",
     "mixes of a line's words", "images with a torn header", "runs cut within a call", "runs cut within a mix",
-    "recoveries cut", "runs cut between calls",
+    "recoveries cut", "runs cut between calls", "values saved again without room",
 };
 
 /* What tracer and tracee share. */
@@ -437,6 +437,17 @@ static size_t free_slots(const struct store *s)
     return count;
 }
 
+/* A set of an older job to the value it has, without room for a new version: accepted, with nothing changed. */
+static bool saves_again(const struct tracer *t, const struct call *call)
+{
+    const struct store *s = &t->m->store;
+    uint64_t at = call->kind == CALL_SET ? board_read(STORE(s), call->thread, call->key) : BOARD_REFUSED;
+    if (at >= BOARD_REFUSED || call->value_words != s->words - 1 || free_slots(s) >= 2)
+        return false;
+    uint32_t label = s->working[header_at((at - contents_at(s, 0)) / s->words) + 1], open = t->reference.open[call->thread];
+    return open != 0 && open != label && memcmp(s->working + at, call->value, call->value_words * sizeof *call->value) == 0;
+}
+
 /* The thread whose operation holds up an advance, or a sync; NONE if none does. */
 static size_t holding(const struct tracer *t, enum call_kind kind)
 {
@@ -460,7 +471,7 @@ static void turn(const struct tracer *t, struct call *call)
     if ((call->kind == CALL_SET || call->kind == CALL_DELETE) && !job)
         call->kind = CALL_NEW;
     bool takes_two = call->kind == CALL_NEW || call->kind == CALL_SET || call->kind == CALL_BATCH || call->kind == CALL_APPEND;
-    if (takes_two && free_slots(s) < 2)
+    if (takes_two && free_slots(s) < 2 && !saves_again(t, call))
         call->kind = job && free_slots(s) > 0 ? CALL_DELETE : CALL_ADVANCE;
     if (call->kind >= CALL_NEW && call->kind <= CALL_TAKE && !is_open)
         call->kind = CALL_BEGIN;
@@ -484,7 +495,11 @@ static void run(struct tracer *t)
         call = choose_call(&t->random, s, weights, &call);
         if (below(&t->random, 8) > 0)
             turn(t, &call);
+        bool again = saves_again(t, &call);
         follow(t, &call);
+        if (again && !t->cut && t->m->reply != 0)
+            stop_wrong(t, "the value that a job has is refused", NONE, s->persistent);
+        t->counts[SAVED_AGAIN] += again && !t->cut;
         if (!t->cut && below(&t->random, IDLE_CUT) == 0) {
             t->cut = true;
             memcpy(t->cut_image, s->persistent, s->image * sizeof *s->persistent);

@@ -65,6 +65,8 @@ pub fn new(store: &mut Store, thread: u32, key: u32, value: &[u32]) -> Result<()
 /// "Set on a payload labelled e rewrites the value in its slot. On an older one it takes a free slot
 /// for an UPDATE (label e, same uid and key) and retires the old one in e."
 /// 02, No. 2: "A new version and a DELETE carry their payload's board."
+/// 02, No. 8: "A set that would give 13 is now accepted when the new value equals the present one. It then changes no
+/// image and no note."
 pub fn set(store: &mut Store, thread: u32, key: u32, value: &[u32]) -> Result<(), Refusal> {
     let (entry, epoch) = open_operation(store, thread)?;
     judge_key(&entry, key, Some(value))?;
@@ -76,7 +78,10 @@ pub fn set(store: &mut Store, thread: u32, key: u32, value: &[u32]) -> Result<()
         entry.join_waiting(store, epoch, old);
         return Ok(());
     }
-    let slot = free_slot(store, &entry, 2)?;
+    let slot = match free_slot(store, &entry, 2) {
+        Err(13) if store.working[entry.sizes.value_part(old)] == *value => return Ok(()),
+        slot => slot?,
+    };
     fill(store, &entry, slot, Header { kind: UPDATE, epoch, ..header }, key, value);
     store.transient[entry.layout.retired(old)] = epoch;
     Ok(())
@@ -172,7 +177,7 @@ fn judge_newer(store: &Store, entry: &Entry, epoch: u32, name: Name) -> Result<(
 }
 
 /// "of several live slots with one key, the lowest"
-fn live_slot(store: &Store, entry: &Entry, name: Name) -> Option<usize> {
+pub fn live_slot(store: &Store, entry: &Entry, name: Name) -> Option<usize> {
     entry.slots().find(|&slot| entry.is_live(store, slot) && entry.sizes.name(&store.working, slot) == name)
 }
 

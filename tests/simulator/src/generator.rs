@@ -1,8 +1,9 @@
 //! Random starts and random calls, most of them sensible for the store at hand.
 
 use crate::calls::{image_words, refusal_of, simulate, transient_words, Call, WENT_ON};
+use crate::changes::live_slot;
 use crate::damage::{acceptable_image, any_clock, edge_word};
-use crate::image::{Sizes, DELETE, JOBS, PREFIX};
+use crate::image::{job, Sizes, DELETE, JOBS, PREFIX};
 use crate::lists::any_list;
 use crate::queue::front;
 use crate::random::Random;
@@ -215,13 +216,28 @@ fn any_value(random: &mut Random, entry: Option<Entry>) -> Vec<u32> {
     random.junk(length)
 }
 
+/// A value for a set: that of the job of the key, that one with another word, or any.
+pub fn value_to_set(random: &mut Random, store: &Store, entry: Option<Entry>, key: u32) -> Vec<u32> {
+    let held =
+        entry.and_then(|entry| live_slot(store, &entry, job(key)).map(|slot| entry.sizes.value(&store.working, slot)));
+    match (random.below(4), held) {
+        (0, Some(value)) => value,
+        (1, Some(mut value)) => {
+            let word = random.pick(&[0, value.len() - 1, value.len() - 1]);
+            value[word] ^= 1 << random.below(32);
+            value
+        }
+        _ => any_value(random, entry),
+    }
+}
+
 /// New, set, delete or read.
 fn job_call(random: &mut Random, store: &Store, entry: Option<Entry>, thread: u32, keys: u32) -> Call {
     let roll = random.below(100);
     let key = any_key(random, store, entry, keys, roll >= 35);
     match roll {
         0..=34 => Call::New { thread, key, value: any_value(random, entry) },
-        35..=62 => Call::Set { thread, key, value: any_value(random, entry) },
+        35..=62 => Call::Set { thread, key, value: value_to_set(random, store, entry, key) },
         63..=88 => Call::Delete { thread, key },
         89..=95 => Call::Read { thread, key },
         _ => Call::ReadRefusal { thread, key },

@@ -32,6 +32,7 @@ pub mod random;
 pub mod recovery;
 pub mod reference;
 pub mod remains;
+pub mod resave_cases;
 pub mod store;
 pub mod stored;
 pub mod torn;

@@ -3,7 +3,7 @@
 use crate::batch::{call_alone, DELETE, MOST_CHANGES, NEW, SET};
 use crate::calls::simulate;
 use crate::changes::open_operation;
-use crate::generator::any_key;
+use crate::generator::{any_key, value_to_set};
 use crate::image::{Sizes, JOBS, LARGEST};
 use crate::random::Random;
 use crate::store::Store;
@@ -128,9 +128,12 @@ impl Maker<'_> {
         self.with_value(kind, key)
     }
 
-    /// Any value words, for a delete too.
+    /// Any value words, for a delete too; of a set now and then those that the job has.
     fn with_value(&mut self, kind: u32, key: u32) -> Vec<u32> {
-        [vec![kind, key], self.random.junk(self.words - 2)].concat()
+        let junk = self.random.junk(self.words - 2);
+        let held =
+            if kind == SET { value_to_set(self.random, &self.store, self.store.enter().ok(), key) } else { Vec::new() };
+        [vec![kind, key], if held.len() == junk.len() { held } else { junk }].concat()
     }
 
     fn is_accepted(&self, change: &[u32]) -> bool {

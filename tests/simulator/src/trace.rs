@@ -8,6 +8,7 @@ use crate::image::{job, Sizes};
 use crate::queue_cases::QueueCases;
 use crate::random::Random;
 use crate::reference::Reference;
+use crate::resave_cases::ResaveCases;
 use crate::store::Store;
 use crate::torn::{has_remains, line_between, torn_images, Line};
 use crate::transient::PHASE;
@@ -22,6 +23,7 @@ pub struct Counts {
     pub refusals: Refusals,
     pub queue_cases: QueueCases,
     pub batch_cases: BatchCases,
+    pub resave_cases: ResaveCases,
     pub within_syncs: WithinSyncs,
 }
 
@@ -153,6 +155,7 @@ impl Replay<'_, '_> {
         self.counts.calls += 1;
         self.counts.queue_cases.note(&before, call, reply);
         self.counts.batch_cases.note(&before, call, reply);
+        self.counts.resave_cases.note(&before, call, reply);
         if refusal != 0 {
             let seen = self.counts.refusals.get_mut(refusal as usize);
             *seen.ok_or(format!("unknown refusal {refusal}"))? += 1;

@@ -20,14 +20,16 @@ fn every_crash_leaves_the_reference_map() {
             panic!("seed {seed}: {}", shrink(trace, &mut simulated));
         }
     }
-    let Counts { calls, crashes, went_on, torn, refusals, queue_cases, batch_cases, within_syncs } = &counts;
+    let Counts { calls, crashes, went_on, torn, refusals, queue_cases, batch_cases, resave_cases, within_syncs } =
+        &counts;
     println!("seeds 0 to 3999, {calls} calls, {crashes} crashes, {torn}, {went_on} went on, {within_syncs}");
-    println!("refusals {refusals:?}, {queue_cases}, {batch_cases}");
+    println!("refusals {refusals:?}, {queue_cases}, {batch_cases}, {resave_cases}");
     assert!(*crashes > 50_000 && *went_on > 25_000);
     let least = Torn { headers: 50_000, contents: 50_000, recovers: 50_000, remains: 50_000 };
     assert!(torn.are_at_least(least), "too little torn: {torn}");
     assert!(queue_cases.of_runs_are_at_least(100), "too few of some sort: {queue_cases}");
     assert!(batch_cases.of_runs_are_at_least(50), "too few of some sort: {batch_cases}");
+    assert!(resave_cases.are_at_least(50), "too few of some sort: {resave_cases}");
     let least = WithinSyncs { syncs: 2000, underway: 500, words: 10_000, changing: 3000 };
     assert!(within_syncs.are_at_least(least), "too little written back within syncs: {within_syncs}");
     assert!(refusals[5..].iter().all(|&seen| seen >= 100), "{refusals:?}");

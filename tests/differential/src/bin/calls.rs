@@ -19,6 +19,7 @@ use simulator::index_damage::damage_index;
 use simulator::queue_cases::QueueCases;
 use simulator::random::Random;
 use simulator::remains::{CallsOnRemains, RecoveriesOfRemains};
+use simulator::resave_cases::ResaveCases;
 use simulator::store::Store;
 
 /// Upper ends for the number of slots, most of them small.
@@ -32,6 +33,7 @@ struct Test {
     told_apart: ToldApart,
     queue_cases: QueueCases,
     batch_cases: BatchCases,
+    resave_cases: ResaveCases,
     on_remains: CallsOnRemains,
     of_remains: RecoveriesOfRemains,
     index_cases: IndexCases,
@@ -44,7 +46,7 @@ fn main() {
     watch::start();
     let random = Random::new(seed);
     let (refusals, told_apart, queue_cases, batch_cases, on_remains, of_remains) = Default::default();
-    let (index_cases, misled, smallest) = Default::default();
+    let (resave_cases, index_cases, misled, smallest) = Default::default();
     let (calls, accepted) = (0, 0);
     let mut test = Test {
         random,
@@ -54,6 +56,7 @@ fn main() {
         told_apart,
         queue_cases,
         batch_cases,
+        resave_cases,
         on_remains,
         of_remains,
         index_cases,
@@ -74,18 +77,19 @@ fn main() {
         test.changes(wild, 12);
     }
     let Test { calls, accepted, refusals, told_apart, queue_cases, batch_cases, on_remains, of_remains, .. } = test;
-    let Test { index_cases, misled, smallest, .. } = test;
+    let Test { resave_cases, index_cases, misled, smallest, .. } = test;
     smallest.report(seed);
     let ToldApart { no_9, no_11, found_none } = told_apart;
     println!(
         "{calls} calls, no difference, {accepted} accepted, refusals by number {refusals:?}, slots told from jobs by \
-         their board: no 9 {no_9}, no 11 {no_11}, none found {found_none}, {queue_cases}, {batch_cases}, {on_remains}, \
-         {of_remains}, {index_cases}, {misled}, seed {seed}"
+         their board: no 9 {no_9}, no 11 {no_11}, none found {found_none}, {queue_cases}, {batch_cases}, {resave_cases}, \
+         {on_remains}, {of_remains}, {index_cases}, {misled}, seed {seed}"
     );
     assert!(refusals[1..].iter().all(|&seen| seen >= 100), "too few of some refusal");
     assert!(told_apart.are_at_least(100), "too few slots that only their board tells from a job");
     assert!(queue_cases.are_at_least(100), "too few of some sort of queue calls");
     assert!(batch_cases.are_at_least(100), "too few of some sort of batches");
+    assert!(resave_cases.are_at_least(100), "too few of some sort of sets of the value that a job has");
     assert!(on_remains.are_at_least(100), "too few calls that met remains in some way");
     assert!(of_remains.are_at_least(100), "too few recoveries that met remains in some way");
     assert!(index_cases.are_at_least(100), "too few of some change of the index");
@@ -101,6 +105,7 @@ impl Test {
             Ok(reply) => {
                 self.queue_cases.note(&before, call, reply);
                 self.batch_cases.note(&before, call, reply);
+                self.resave_cases.note(&before, call, reply);
                 self.on_remains.note(&before, call, reply, store);
                 self.index_cases.note(&before, call, reply, store);
                 if *call == Call::Recover {

@@ -33,11 +33,12 @@ fn main() {
             panic!("run {run} of seed {seed}: {what}");
         }
     }
-    let Counts { calls, crashes, went_on, torn, refusals, queue_cases, batch_cases, within_syncs } = &counts;
+    let Counts { calls, crashes, went_on, torn, refusals, queue_cases, batch_cases, resave_cases, within_syncs } =
+        &counts;
     println!(
         "{runs} runs, {calls} calls, {crashes} cuts, {torn}, no difference, recover went on {went_on}, {within_syncs}, \
          starts near 2 {starts_low} and near {LARGEST} {starts_high}, refusals by number {refusals:?}, {queue_cases}, \
-         {batch_cases}, seed {seed}"
+         {batch_cases}, {resave_cases}, seed {seed}"
     );
     assert!(refusals[1..].iter().all(|&seen| seen >= 100), "too few of some refusal");
     let least = Torn { headers: 100 * runs, contents: 40 * runs, recovers: 100 * runs, remains: 100 * runs };
@@ -46,6 +47,7 @@ fn main() {
     assert!(within_syncs.are_at_least(least), "too little written back within syncs");
     assert!(queue_cases.of_runs_are_at_least(100), "too few of some sort of queue calls");
     assert!(batch_cases.of_runs_are_at_least(100), "too few of some sort of batches");
+    assert!(resave_cases.are_at_least(100), "too few of some sort of sets of the value that a job has");
     assert!(starts_low >= 100 && starts_high >= 100, "too few starts near some end of the clock");
 }
 

@@ -28,12 +28,13 @@ fn main() {
     if let Err(what) = replay_with_some_crashes(&trace, &mut compared, &mut counts, stores) {
         panic!("seed {seed}: {what}");
     }
-    let Counts { calls, crashes, went_on, torn, refusals, queue_cases, batch_cases, within_syncs } = &counts;
+    let Counts { calls, crashes, went_on, torn, refusals, queue_cases, batch_cases, resave_cases, within_syncs } =
+        &counts;
     let (first, last) = (trace.start.working[2], store.working[2]);
     println!(
         "{calls} calls on {SLOTS} slots and {THREADS} threads, clock {first} to {last}, {crashes} cuts, {torn}, no \
          difference, recover went on {went_on}, {within_syncs}, refusals by number {refusals:?}, {queue_cases}, {batch_cases}, \
-         seed {seed}"
+         {resave_cases}, seed {seed}"
     );
 }
 
