@@ -224,6 +224,13 @@ static void full_cut(struct bed *b)
         accepted(board_write_back(BED(b), position));
 }
 
+/* As after full, with an operation open: no job has room for a new version. */
+static void full_open(struct bed *b)
+{
+    full(b);
+    begin(b);
+}
+
 /* ---- What is measured. A reply is a number that both sides must agree in ---- */
 
 static uint64_t do_new(const struct calls *c, struct bed *b)
@@ -234,6 +241,11 @@ static uint64_t do_new(const struct calls *c, struct bed *b)
 static uint64_t do_set(const struct calls *c, struct bed *b)
 {
     return c->set(BED(b), b->thread, b->key, other_value, VALUE_WORDS);
+}
+
+static uint64_t do_set_same(const struct calls *c, struct bed *b)
+{
+    return c->set(BED(b), b->thread, b->key, value, VALUE_WORDS);
 }
 
 static uint64_t do_delete(const struct calls *c, struct bed *b) { return c->delete(BED(b), b->thread, b->key); }
@@ -311,6 +323,8 @@ static const struct measure {
     {"new", half_full_open, do_new, false, 0, 0},
     {"set in place", young, do_set, false, 0, 0},
     {"set by a new version", half_full_open, do_set, false, 0, 0},
+    {"set to the same value, no room", full_open, do_set_same, false, 0, 0},
+    {"set to another value, no room", full_open, do_set, false, BOARD_FULL, 0},
     {"delete", half_full_open, do_delete, false, 0, 0},
     {"40 new, a call each, per change", round_of_new, do_calls, true, UINT64_MAX, 0},
     {"40 new, one batch, per change", round_of_new, do_batch, true, UINT64_MAX, 0},
@@ -492,7 +506,7 @@ static uint64_t do_make(const struct calls *c, struct bed *b)
 static void compare_call(struct bed beds[2])
 {
     static uint64_t (*const some[])(const struct calls *, struct bed *) = {
-        do_begin, do_begin, do_end, do_end, do_make, do_make, do_set, do_set, do_delete, do_delete, do_read, do_append,
+        do_begin, do_begin, do_end, do_end, do_make, do_make, do_set, do_set_same, do_delete, do_delete, do_read, do_append,
         do_take, do_look, do_step, do_step, do_step, do_step, do_batch, do_sync};
     struct measure call = {"a call of a random run", NULL, some[below(sizeof some / sizeof *some)], false, UINT64_MAX, 0};
     uint32_t keys = beds[0].slots, key = 1 + below(keys), thread = below(3);

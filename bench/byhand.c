@@ -265,6 +265,16 @@ INLINE void fill(const struct board *b, uint32_t *bucket, size_t slot, const uin
     join(b, bucket, slot);
 }
 
+/* The slot has this value: word by word, which is less than a call of memcmp for so few. */
+INLINE bool holds(const struct board *b, size_t slot, const uint32_t *value)
+{
+    const uint32_t *held = b->contents + b->words * slot + 1;
+    for (size_t i = 0; i < b->words - 1; i++)
+        if (held[i] != value[i])
+            return false;
+    return true;
+}
+
 /* New, set and delete of a key in an operation of that epoch. */
 static uint32_t make(const struct board *b, uint32_t epoch, uint32_t key, const uint32_t *value)
 {
@@ -303,7 +313,7 @@ static uint32_t replace(const struct board *b, uint32_t epoch, uint32_t key, con
     }
     size_t slot = room(b, 2);
     if (slot == NONE)
-        return BOARD_FULL;
+        return holds(b, live, value) ? 0 : BOARD_FULL;
     fill(b, chain, slot, (uint32_t[]){UPDATE, epoch, header[UID], JOBS}, key, value);
     b->retired[live] = epoch;
     return 0;
