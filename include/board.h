@@ -115,8 +115,8 @@
 
 /* The version of this header. */
 #define BOARD_VERSION_MAJOR 0
-#define BOARD_VERSION_MINOR 7
-#define BOARD_VERSION_PATCH 1
+#define BOARD_VERSION_MINOR 8
+#define BOARD_VERSION_PATCH 0
 #define BOARD_VERSION (BOARD_VERSION_MAJOR * 10000 + BOARD_VERSION_MINOR * 100 + BOARD_VERSION_PATCH)
 
 /* Before a call whose answer can be a refusal: the compiler warns where it is not looked at. */
@@ -253,8 +253,11 @@ uint32_t board_new(uint32_t *working, size_t working_words,
                    uint32_t thread, uint32_t key, const uint32_t *value, size_t value_words);
 
 /* Gives a live job another value. A job last changed in an earlier epoch takes a new slot, and then
- * two must be free; the old one becomes free again a few epochs later.
- * Refusals: BOARD_NO_THREAD, BOARD_NOT_OPEN, BOARD_BAD_ARGUMENT, BOARD_NEWER, BOARD_NO_JOB, BOARD_FULL. */
+ * two must be free; the old one becomes free again a few epochs later. Where fewer are free, the value
+ * that the job has is accepted all the same, and no word of the store changes: a job can be saved again on
+ * a full board. After a power cut it counts as any accepted change does.
+ * Refusals: BOARD_NO_THREAD, BOARD_NOT_OPEN, BOARD_BAD_ARGUMENT, BOARD_NEWER, BOARD_NO_JOB, BOARD_FULL (for
+ * another value than the job has). */
 BOARD_MUST_CHECK
 uint32_t board_set(uint32_t *working, size_t working_words,
                    const uint32_t *persistent, size_t persistent_words,
@@ -291,7 +294,7 @@ enum board_change {
  * whole list, a multiple of W + 1. An empty list is accepted with 0.
  *
  * What was accepted before a refusal stands: the changes are part of the open operation, and a power cut
- * keeps or loses them with it. Only a call that refuses with none accepted changes nothing.
+ * keeps or loses them with it. A call that refuses with none accepted changes nothing.
  *
  *     uint32_t changes[2][1 + WORDS] = {{BOARD_NEW, 17, 4, 20}, {BOARD_DELETE, 12}};
  *     uint64_t answer = board_batch(w, wn, p, pn, t, tn, thread, *changes, 2 * (1 + WORDS));
