@@ -18,7 +18,7 @@ use Rattle.image.specs.declared.header.Header.{Header}
 use Rattle.image.specs.declared.name.Name.{Name}
 use Rattle.image.specs.Name.{nameAt}
 use Rattle.image.specs.Whole.{payload-filled}
-use Rattle.image.specs.Laws.{key-contents, name-contents, value-contents}
+use Rattle.image.specs.Laws.{key-contents, name-contents}
 use Rattle.transient.specs.declared.sizes.Sizes.{Sizes}
 use Rattle.transient.specs.Layout.{threadsOf, threadsOk, note, nextUidAt, nextOrderAt, phaseAt, placeAt, openEpoch, retiredIn, blank}
 use Rattle.transient.specs.Store.{Store, store, tableOf, sizesOf}
@@ -36,7 +36,7 @@ use Rattle.crash.specs.Steps.{atRest, Survives, Settled, Start}
 use Rattle.crash.specs.Begin.{start-inv}
 use Rattle.crash.specs.Fifo.{fifo-none}
 use Rattle.guarantee.specs.Promise.{jobsOf}
-use Rattle.guarantee.specs.View.{entryOf, slotOf, noSlot, view, progress, view-in, view-out}
+use Rattle.guarantee.specs.View.{entryOf, slotOf, noSlot, view, progress, view-in, view-out, working-name, working-value}
 use Rattle.guarantee.specs.Good.{stateOf, Image, Good, startOf}
 use Rattle.guarantee.specs.Says.{blank-proper, filled-says-proper}
 use Rattle.guarantee.specs.Surviving.{survives-at}
@@ -161,10 +161,10 @@ module _ {l tr : List ℕ} (z : Clean l tr) where
   wins-at = survives-at st sz c (c - 2) (omega (arith, ok .clock-lo)) (λ m h. proper-at m h .kind-hi)
 
   name-at : (s : ℕ) → s < n → slots s .working .name ≡ nameAt l n w s
-  name-at s h = rw (is-at s h) (sym (name-contents l n w s some-width))
+  name-at = working-name st sz c some-width
 
   value-at : (s : ℕ) → s < n → slots s .working .value ≡ valueAt l n w s
-  value-at s h = rw (is-at s h) (sym (value-contents l n w s some-width))
+  value-at = working-value st sz c some-width
 
   -- a slot with something in it survives
   record Lives (s : ℕ) : Type 0 where

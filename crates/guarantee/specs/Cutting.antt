@@ -13,7 +13,6 @@ use Rattle.reply.specs.declared.Check.the-variants.{Accepted}
 use Rattle.image.specs.Layout.{header, contents, valueAt, clockOf}
 use Rattle.image.specs.declared.name.Name.{Name}
 use Rattle.image.specs.Name.{misnamed, nameAt, same-name, named-says}
-use Rattle.image.specs.Laws.{name-contents, value-contents}
 use Rattle.transient.specs.declared.sizes.Sizes.{Sizes}
 use Rattle.transient.specs.Store.{Store}
 use Rattle.survival.specs.Survivors.{kept, survivor}
@@ -29,7 +28,7 @@ use Rattle.crash.specs.Steps.{Kept, Survives}
 use Rattle.crash.specs.Cut.{CutShows, cut-versions, cut-names, cut-named, cut-jobs}
 use Rattle.guarantee.specs.Trace.{Plain}
 use Rattle.guarantee.specs.Promise.{jobsOf, Holds, Promise}
-use Rattle.guarantee.specs.View.{entryOf, view, view-in}
+use Rattle.guarantee.specs.View.{entryOf, view, view-in, persistent-name, persistent-value}
 use Rattle.guarantee.specs.Good.{Good}
 use Rattle.guarantee.specs.Says.{worded-proper}
 use Rattle.guarantee.specs.Surviving.{kept-at, at-survives, survives-at}
@@ -74,10 +73,10 @@ module _ {sz : Sizes} {start : Jobs} {st : Store} {p : Plain} (g : Good sz start
   is-at s h = rw (view-in st sz (p .clock) s h)
 
   name-at : (s : ℕ) → s < sz .n → slots s .persistent .name ≡ nameAt image (sz .n) (sz .w) s
-  name-at s h = rw (is-at s h) (sym (name-contents image (sz .n) (sz .w) s some-width))
+  name-at = persistent-name st sz (p .clock) some-width
 
   value-at : (s : ℕ) → s < sz .n → slots s .persistent .value ≡ valueAt image (sz .n) (sz .w) s
-  value-at s h = rw (is-at s h) (sym (value-contents image (sz .n) (sz .w) s some-width))
+  value-at = persistent-value st sz (p .clock) some-width
 
   worded-at : (s : ℕ) → s < sz .n → Worded (p .clock) (entryOf (header image s) (contents image (sz .n) (sz .w) s))
   worded-at s h = rw (is-at s h) at (g .inv .one s .worded)

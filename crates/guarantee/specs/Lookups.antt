@@ -17,7 +17,6 @@ use Rattle.search.specs.declared.Found.the-variants.{At, Nothing}
 use Rattle.image.specs.Layout.{isFilled, isPayload, header, contents}
 use Rattle.image.specs.declared.name.Name.{Name}
 use Rattle.image.specs.Name.{nameAt, same-name, name-same}
-use Rattle.image.specs.Laws.{name-contents}
 use Rattle.transient.specs.declared.sizes.Sizes.{Sizes}
 use Rattle.transient.specs.Layout.{note, lastAt, retiredIn}
 use Rattle.transient.specs.Store.{Store, Table, tableOf}
@@ -30,7 +29,7 @@ use Rattle.table.specs.Laws.{Called}
 use Rattle.crash.specs.Reference.{Jobs}
 use Rattle.crash.specs.Slots.{Slot, Filled, Payload, Proper}
 use Rattle.guarantee.specs.Trace.{Plain}
-use Rattle.guarantee.specs.View.{entryOf, view, view-in, view-out}
+use Rattle.guarantee.specs.View.{entryOf, view, view-in, view-out, working-name}
 use Rattle.guarantee.specs.Good.{Good}
 use Rattle.guarantee.specs.Says.{payload-of, proper-filled, proper-payload}
 
@@ -94,7 +93,7 @@ module _ {sz : Sizes} {start : Jobs} {st : Store} {p : Plain} (g : Good sz start
       empty h = omega arith
 
   pub slot-name : (m : ℕ) → m < sz .n → slots m .working .name ≡ nameAt (st .working) (sz .n) (sz .w) m
-  slot-name m h = rw (view-in st sz (p .clock) m h) (sym (name-contents (st .working) (sz .n) (sz .w) m (omega (arith, g .working .sized .sizes .width-lo))))
+  slot-name = working-name st sz (p .clock) (omega (arith, g .working .sized .sizes .width-lo))
 
   -- working headers are proper, so what has a kind is filled
   proper-at : (m : ℕ) → m < sz .n → Proper (p .clock) (entryOf (header (st .working) m) (contents (st .working) (sz .n) (sz .w) m))

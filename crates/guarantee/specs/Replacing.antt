@@ -1,7 +1,7 @@
 -- Set and delete keep the invariant: in the version's own slot, by a later version, or with nothing changed. What is said of a delete holds
 -- of any name.
 use Prim.Native.Nat.{ℕ, _+_, _-_, _≤_, _<_}
-use mathlib.Core.Path.{_≡_, refl, sym, ap, _∙_}
+use mathlib.Core.Path.{_≡_, refl, sym, _∙_}
 use mathlib.Core.Bool.{true, false}
 use mathlib.Core.Logic.{_≢_, ⊎-elim}
 use mathlib.Core.List.{List}
@@ -14,7 +14,7 @@ use Rattle.search.specs.Bools.{cases}
 use Rattle.reply.specs.declared.Refusal.the-variants.{Newer, NoJob}
 use Rattle.image.specs.Layout.{header, contents, keyAt, freeHeader, antiHeader}
 use Rattle.image.specs.Requires.{slot}
-use Rattle.image.specs.Laws.{key-contents, value-contents}
+use Rattle.image.specs.Laws.{key-contents}
 use Rattle.image.specs.declared.name.Name.{Name}
 use Rattle.image.specs.Name.{nameOf, jobName}
 use Rattle.transient.specs.declared.sizes.Sizes.{Sizes}
@@ -42,7 +42,7 @@ use Rattle.crash.specs.Turn.{turn-inv}
 use Rattle.crash.specs.Unmake.{unmake-inv}
 use Rattle.crash.specs.Resave.{resave-inv}
 use Rattle.guarantee.specs.Trace.{Plain, toldChange}
-use Rattle.guarantee.specs.View.{view, slotOf, view-in}
+use Rattle.guarantee.specs.View.{view, slotOf, view-in, working-value}
 use Rattle.guarantee.specs.Good.{stateOf, Good}
 use Rattle.guarantee.specs.Notes.{waiting-joins, freed-joins}
 use Rattle.guarantee.specs.Indexing.{rewritten-stays, turned-stays, freed-stays}
@@ -148,7 +148,7 @@ module _ {sz : Sizes} {start : Jobs} {wk l tr : List ℕ} {p : Plain} (thread : 
   resaved-fine latest v long same =
       let x : v ≡ old .working .value =
       same-says (record { slot = slot (g .working .sized) (lives .below); words = omega arith }) same
-      ∙ value-contents wk (sz .n) (sz .w) s (omega arith) ∙ sym (ap (λ (a : Slot). a .working .value) at-slot) in
+      ∙ sym (working-value (store wk l tr) sz (p .clock) (omega arith) s (lives .below)) in
       record {
         good = good-change g (g .working) (front-same .head) refl refl (g .index)
             (row-epoch g thread name (some v) within) (fifo-after g e name (some v) (λ b. value-owes b))

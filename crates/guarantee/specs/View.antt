@@ -1,6 +1,6 @@
 -- A store seen as a table of slots, for the crash invariant: what each slot holds in both images and in the notes.
 use Prim.Native.Nat.{ℕ, _+_, _≤_, _<_}
-use mathlib.Core.Path.{_≡_}
+use mathlib.Core.Path.{_≡_, sym}
 use mathlib.Core.Bool.{cond, _&&_}
 use mathlib.Core.Logic.{_≢_}
 use mathlib.Core.List.{List, []}
@@ -11,8 +11,9 @@ use native.Mathlib.Omega.{arith}
 use native.Mathlib.Decide.{decLt}
 use Rattle.search.specs.Bools.{flag}
 use Rattle.image.specs.declared.header.Header.{Header}
-use Rattle.image.specs.Layout.{header, contents}
-use Rattle.image.specs.Name.{nameOf}
+use Rattle.image.specs.Layout.{header, contents, valueAt}
+use Rattle.image.specs.Name.{nameOf, nameAt}
+use Rattle.image.specs.Laws.{name-contents, value-contents}
 use Rattle.transient.specs.declared.sizes.Sizes.{Sizes}
 use Rattle.transient.specs.Store.{Store}
 use Rattle.transient.specs.Layout.{retiredIn, isWaiting}
@@ -59,6 +60,20 @@ module _ (st : Store) (sz : Sizes) (c : ℕ) where
   pub view-out : (s : ℕ) → sz .n ≤ s → view st sz c s ≡ noSlot
   unfolding view
   view-out s h = rw (le-ltb s (sz .n) h)
+
+-- ---- a slot's name and value are those that are read there
+module _ (st : Store) (sz : Sizes) (c : ℕ) (wide : 1 ≤ sz .w) (s : ℕ) (h : s < sz .n) where
+  pub working-name : view st sz c s .working .name ≡ nameAt (st .working) (sz .n) (sz .w) s
+  working-name = rw (view-in st sz c s h) (sym (name-contents (st .working) (sz .n) (sz .w) s wide))
+
+  pub working-value : view st sz c s .working .value ≡ valueAt (st .working) (sz .n) (sz .w) s
+  working-value = rw (view-in st sz c s h) (sym (value-contents (st .working) (sz .n) (sz .w) s wide))
+
+  pub persistent-name : view st sz c s .persistent .name ≡ nameAt (st .persistent) (sz .n) (sz .w) s
+  persistent-name = rw (view-in st sz c s h) (sym (name-contents (st .persistent) (sz .n) (sz .w) s wide))
+
+  pub persistent-value : view st sz c s .persistent .value ≡ valueAt (st .persistent) (sz .n) (sz .w) s
+  persistent-value = rw (view-in st sz c s h) (sym (value-contents (st .persistent) (sz .n) (sz .w) s wide))
 
 -- ---- from slots to tables
 module _ (a b : Store) (sz : Sizes) (c : ℕ) where

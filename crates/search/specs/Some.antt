@@ -95,6 +95,10 @@ pub at-every : (p : ℕ → Bool) (n : ℕ) → ((s : ℕ) → s < n → p s ≡
 unfolding every
 at-every p n h = not-is-true (none-some (λ k. not (p k)) n (λ s l. not-is-false (h s l)))
 
+pub every-same : (p q : ℕ → Bool) (n : ℕ) → ((s : ℕ) → s < n → p s ≡ q s) → every p n ≡ every q n
+unfolding every
+every-same p q n h = ap not (some-same (λ s. not (p s)) (λ s. not (q s)) n (λ s l. ap not (h s l)))
+
 -- a loop has passed i of n, each of which passes
 pub record Held (p : ℕ → Bool) (n i : ℕ) : Type 0 where
   pub low : i ≤ n

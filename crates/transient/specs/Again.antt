@@ -7,7 +7,7 @@ use lib.ListN.{length}
 use lib.Dec.{eqb}
 use borrow.Author.Tests.{le-leb, lt-ltb, eqb-true, not-false}
 use Rattle.search.specs.Bools.{and-left, and-right, and-both}
-use Rattle.search.specs.Some.{some-same, every}
+use Rattle.search.specs.Some.{every-same}
 use Rattle.reply.specs.declared.Check.the-variants.{Accepted}
 use Rattle.reply.specs.declared.Refusal.the-variants.{BadSizes, BadClock}
 use Rattle.reply.specs.Refusals.{refuse, not-refused}
@@ -188,11 +188,11 @@ kept-sizes k = rw (k .working .slots, k .working .width, k .notes .long)
 -- refusal 2 passes again, and with it the whole check
 module _ (wk l tr : List ℕ) {wk′ tr′ : List ℕ} (k : TableKept (sizesOf (table wk tr)) (table wk tr) (table wk′ tr′)) where
   clocks-again : clocksFit wk′ l tr′ (sizesOf (table wk tr) .t) ≡ clocksFit wk l tr (sizesOf (table wk tr) .t)
-  unfolding clocksFit opensOk openOk every
+  unfolding clocksFit opensOk openOk
   clocks-again =
       rw (k .clock)
-      (ap (λ b. clockOk (clockOf wk) && (eqb (clockOf l) (clockOf wk) && not b))
-      (some-same (λ u. not (openOk (clockOf wk) (openEpoch tr′ u))) (λ u. not (openOk (clockOf wk) (openEpoch tr u))) (sizesOf (table wk tr) .t) (λ u h. rw (k .notes .opens u h))))
+      (ap (λ b. clockOk (clockOf wk) && (eqb (clockOf l) (clockOf wk) && b))
+      (every-same (λ u. openOk (clockOf wk) (openEpoch tr′ u)) (λ u. openOk (clockOf wk) (openEpoch tr u)) (sizesOf (table wk tr) .t) (λ u h. rw (k .notes .opens u h))))
 
   pub kept-entry : entryCheck (store wk l tr) ≡ Accepted → entryCheck (store wk′ l tr′) ≡ Accepted
   kept-entry a =

@@ -9,7 +9,8 @@ use crate::store::Store;
 /// How often a set of an older version met each sort.
 #[derive(Clone, Copy, Default, Debug)]
 pub struct ResaveCases {
-    /// The same value, accepted with no slot free and with one; of these, on boards of 2 to 4 slots, and within lists.
+    /// The same value, accepted with no slot free and with one, and of these on boards of 2 to 4 slots; and within lists,
+    /// which are not among these.
     pub none_free: u64,
     pub one_free: u64,
     pub small_boards: u64,
