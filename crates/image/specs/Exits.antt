@@ -4,7 +4,8 @@ use mathlib.Core.Path.{_≡_, refl, sym, _∙_}
 use mathlib.Core.List.{List, _++_}
 use mathlib.Core.Bool.{Bool, true, false}
 use mathlib.Core.Logic.{⊎-elim}
-use lib.ListN.{length, getD, set, take, drop}
+use lib.ListN.{length, getD, set, take, drop, replicate, length-take, length-drop, length-replicate}
+use lib.Seq.{take-all}
 use lib.Dec.{leb, ltb, eqb}
 use borrow.Author.Tests.{eq-eqb, ne-eqb}
 use native.Mathlib.Omega.{arith}
@@ -19,7 +20,7 @@ use Rattle.image.specs.Name.{nameOf, nameAt, misnamed}
 use Rattle.image.specs.Requires.{kindAt, epochAt, uidAt, boardAt, heldHeader, HeaderFits, InRange, Slot, SlotOf, Slots, slot, header-fits, slot-of}
 use Rattle.image.specs.Bytes.{wordsOf, Byte, InWords, Decodes, words-length, words-at}
 use Rattle.image.specs.InPlace.{place-word, place-kind, place-key, place-slot, place-header, place-name, head-word}
-use Rattle.image.specs.Laws.{area-top, sizes-true, shaped, length-contents, part-is, part-line, header-part}
+use Rattle.image.specs.Laws.{area-top, sizes-true, shaped, length-contents, part-is, part-stored, part-line, header-part}
 use Rattle.image.specs.Storing.{storings}
 
 -- ---- headers
@@ -120,6 +121,15 @@ contents-copied {a} {d} {n} {w} {s} {b} z at e =
     let end : contentsAt n w s + w ≤ length d = omega (arith, z .second .room, z .second .sized .long) in
     rw (e ∙ part-is a n w s at, e′, at) (part-line d (contentsLine n w s (contents a n w s)) w (length-contents (z .first)) end)
 
+pub part-cleared : (l : List ℕ) (b k : ℕ) {y : List ℕ} → b + k ≤ length l → y ≡ replicate (length (take (b + k - b) (drop b l))) 0
+    → take b l ++ (y ++ drop (b + k - b) (drop b l)) ≡ stored l b (replicate k 0) k
+part-cleared l b k h e =
+    let e′ : b + k - b ≡ k = omega arith in
+    let long : length (take k (drop b l)) ≡ k = simp (length-take, length-drop) (omega arith) in
+    let zeros : List ℕ = replicate k 0 in
+    let all = length-replicate {A = ℕ} k 0 in
+    rw (e, e′, long) (rw (take-all k zeros (omega arith)) at (part-stored l b zeros k h (omega arith)))
+
 -- ---- names
 pub name-made : (l : List ℕ) (n w s : ℕ) {b k : ℕ} → b ≡ boardAt l s → k ≡ keyAt l n w s → nameOf b k ≡ nameAt l n w s
 unfolding nameAt keyAt header
@@ -187,4 +197,4 @@ module _ (bytes : List ℕ) {a b n w : ℕ} {r : Bool} (p : a ≡ getD (wordsOf 
 
 pub ruleset places = (place-word, place-kind, place-key, place-slot, place-header, place-name, head-word, place-short, place-sizes, place-fits)
 
-pub ruleset laws = (tests, storings, slot, header-fits, slot-of, header-is, header-stored, header-copied, contents-fits, contents-top, key-in, key-is, contents-copied, name-made, bad-zero, bad-entry, bad-none, clock-stored, area-fits, whole-fits, sizes-true, shape-short, shape-sizes, shape-long, in-words, word-made)
+pub ruleset laws = (tests, storings, slot, header-fits, slot-of, header-is, header-stored, header-copied, contents-fits, contents-top, key-in, key-is, contents-copied, part-cleared, name-made, bad-zero, bad-entry, bad-none, clock-stored, area-fits, whole-fits, sizes-true, shape-short, shape-sizes, shape-long, in-words, word-made)

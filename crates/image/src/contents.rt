@@ -54,3 +54,11 @@ pub fn clear(l: &mut [u32])
         j += 1;
     }
 }
+
+// The `k` words from b on become 0.
+pub fn clear_from(l: &mut [u32], b: usize, k: usize)
+    requires { ⌜ b + k ≤ length (now l) ⌝ }
+    ensures { λ _. ⌜ now (l .exit) ≡ stored (now (l .entry)) b (replicate k 0) k ⌝ }
+{
+    clear(&mut l[b..b + k]);
+}

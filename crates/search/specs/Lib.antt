@@ -1,5 +1,7 @@
 pub mod Bools
 pub mod First
+pub mod From
+pub mod Rounds
 pub mod Some
 pub mod Count
 pub mod Largest

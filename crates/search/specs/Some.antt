@@ -1,7 +1,7 @@
 -- "Some" and "every" as tests over the indices below n. A loop for either is a search (`Sought`).
 use Prim.Native.Nat.{ℕ, _+_, _≤_, _<_}
-use mathlib.Core.Path.{_≡_, sym, ap, _∙_}
-use mathlib.Core.Bool.{Bool, true, false, not, _||_, or-true}
+use mathlib.Core.Path.{_≡_, refl, sym, ap, _∙_}
+use mathlib.Core.Bool.{Bool, true, false, not, _||_, or-true, or-false}
 use mathlib.Core.Logic.{⊎-elim}
 use lib.Dec.{ltb}
 use borrow.Author.Tests.{lt-ltb, le-ltb, ltb-true, ltb-false, not-false, not-true}
@@ -85,6 +85,25 @@ some-hit {p} {n} {i} s h e f = rw (any-of p n, sought-hit s h e f, lt-ltb i n h)
 
 pub some-end : {p : ℕ → Bool} {n i : ℕ} → Sought p n i → n ≤ i → false ≡ anyOf p n
 some-end {p} {n} {i} s h = rw (any-of p n, sought-end s h, le-ltb n n (omega arith))
+
+-- .. and a loop that looks at all: what it has seen of those below i
+pub record Seen (p : ℕ → Bool) (n i : ℕ) (b : Bool) : Type 0 where
+  pub low : i ≤ n
+  pub same : b ≡ anyOf p i
+
+pub seen-start : (p : ℕ → Bool) (n : ℕ) → Seen p n 0 false
+unfolding anyOf firstOf
+seen-start p n = record { low = omega arith; same = refl }
+
+module _ {p : ℕ → Bool} {n i : ℕ} {b : Bool} (s : Seen p n i b) where
+  pub seen-hit : i < n → p i ≡ true → Seen p n (i + 1) true
+  seen-hit h t = record { low = omega arith; same = sym (some-at p (i + 1) i (omega arith) t) }
+
+  pub seen-miss : i < n → p i ≡ false → Seen p n (i + 1) b
+  seen-miss h f = record { low = omega arith; same = s .same ∙ sym (any-more p i ∙ (rw f (or-false (anyOf p i)))) }
+
+  pub seen-end : n ≤ i → b ≡ anyOf p n
+  seen-end h = let e : i ≡ n = omega (arith, s .low) in rw e at (s .same)
 
 -- ---- every
 pub every-at : (p : ℕ → Bool) (n : ℕ) → every p n ≡ true → (s : ℕ) → s < n → p s ≡ true
