@@ -122,7 +122,7 @@ pub spliced-is : (tr : List ℕ) (at to link : ℕ) → set (set tr to (getD tr 
 unfolding spliced
 spliced-is tr at to link = refl
 
-place-top : (z : Sizes) (tr : List ℕ) (b s : ℕ) → b < z .n → s ≤ z .n → placeOf z tr b s < headWords + z .t + 5 * z .n
+place-top : (z : Sizes) (tr : List ℕ) (b s : ℕ) → b < z .n → s ≤ z .n → placeOf z tr b s < headWords + z .t + 3 * z .n
 place-top z tr b zero h k = rw (place-first z tr b) (omega arith)
 place-top z tr b (suc s) h k =
     ⊎-elim
@@ -131,7 +131,7 @@ place-top z tr b (suc s) h k =
     (cases (onChain z tr b s))
 
 module _ {tr : List ℕ} {z : Sizes} (name : Name) {s at : ℕ} (p : at ≡ placeOf z tr (bucketOf (z .n) name) s) (y : NoteOf tr z s) where
-  place-low : at < headWords + z .t + 5 * z .n
+  place-low : at < headWords + z .t + 3 * z .n
   place-low = rw p (place-top z tr (bucketOf (z .n) name) s (bucket-low (z .n) name (omega (arith, y .within))) (omega (arith, y .within)))
 
   pub place-within : at < length tr

@@ -26,7 +26,7 @@ deleteAt z tb e s key =
     cond (eqb (header (tb .working) s .epoch) e)
     (cond (eqb (header (tb .working) s .kind) 1)
     (changed Accepted (storeLine (tb .working) (headerLine s freeHeader)) (freed z (tb .transient) e s (nameOf (header (tb .working) s .board) key)))
-    (changed Accepted (storeLine (tb .working) (headerLine s (antiHeader e (header (tb .working) s)))) (setWaiting z (tb .transient) e s)))
+    (changed Accepted (storeLine (tb .working) (headerLine s (antiHeader e (header (tb .working) s)))) (setWaiting (tb .transient) e s)))
     (superseded (room z tb 1) z tb e s (antiHeader e (header (tb .working) s)) key (replicate (z .w - 1) 0))
 
 -- 10

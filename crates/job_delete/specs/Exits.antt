@@ -42,7 +42,7 @@ module _ (z : Sizes) (tb : Table) (e s : ℕ) where
   free-done key o p q r = rw (q, p, r, o)
 
   pub turn-done : {g h : Header} {wk tr : List ℕ} → g ≡ header (tb .working) s → h ≡ antiHeader e g → wk ≡ storeLine (tb .working) (headerLine s h)
-      → tr ≡ setWaiting z (tb .transient) e s → changed Accepted wk tr ≡ turned z tb e s
+      → tr ≡ setWaiting (tb .transient) e s → changed Accepted wk tr ≡ turned z tb e s
   unfolding turned
   turn-done a p q r = rw (q, p, a, r)
 

@@ -29,7 +29,7 @@ freedAt z tb e s key =
 -- an UPDATE labelled e
 unfoldable pub turned : Sizes → Table → ℕ → ℕ → Changed
 turned z tb e s =
-    changed Accepted (storeLine (tb .working) (headerLine s (antiHeader e (header (tb .working) s)))) (setWaiting z (tb .transient) e s)
+    changed Accepted (storeLine (tb .working) (headerLine s (antiHeader e (header (tb .working) s)))) (setWaiting (tb .transient) e s)
 
 -- an older payload
 unfoldable pub covered : Sizes → Table → ℕ → ℕ → ℕ → Changed

@@ -40,7 +40,7 @@ fn turn(working: &mut [u32], transient: &mut [u32], z: Sizes, e: u32, s: usize) 
 {
     let old = image::header::header_at(working, z.n, s);
     image::header::set_header(working, z.n, s, Header::anti(e, old));
-    transient::notes::set_waiting(transient, z, e, s);
+    transient::lists::set_waiting(transient, z, e, s);
     Check::Accepted
 }
 

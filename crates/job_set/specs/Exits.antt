@@ -35,7 +35,7 @@ use Rattle.job_set.specs.Set.{sameValue, setLive, setJob}
 use Rattle.job_set.specs.Stages.{rewritten, resaved, renewed, set-live-is, setOpened, setSized}
 
 module _ (z : Sizes) (tb : Table) (e s : ℕ) where
-  pub rewrite-done : (value : List ℕ) {wk tr : List ℕ} → wk ≡ setValue z (tb .working) s value → tr ≡ setWaiting z (tb .transient) e s → changed Accepted wk tr ≡ rewritten z tb e s value
+  pub rewrite-done : (value : List ℕ) {wk tr : List ℕ} → wk ≡ setValue z (tb .working) s value → tr ≡ setWaiting (tb .transient) e s → changed Accepted wk tr ≡ rewritten z tb e s value
   unfolding rewritten
   rewrite-done value p q = rw (p, q)
 

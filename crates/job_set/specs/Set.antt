@@ -23,7 +23,7 @@ use Rattle.jobs.specs.Way.{onJob}
 unfoldable pub setAt : Sizes → Table → ℕ → ℕ → Job → Changed
 setAt z tb e s j =
     cond (eqb (header (tb .working) s .epoch) e)
-    (changed Accepted (storeLine (tb .working) (record { at = contentsAt (z .n) (z .w) s + 1; words = j .value })) (setWaiting z (tb .transient) e s))
+    (changed Accepted (storeLine (tb .working) (record { at = contentsAt (z .n) (z .w) s + 1; words = j .value })) (setWaiting (tb .transient) e s))
     (superseded (room z tb 2) z tb e s (updatedHeader e (header (tb .working) s)) (j .key) (j .value))
 
 -- "the new value equals the present one": each of its V words, in working

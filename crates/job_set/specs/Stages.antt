@@ -26,7 +26,7 @@ use Rattle.job_set.specs.Set.{setAt, sameValue, setLive}
 
 -- in place
 unfoldable pub rewritten : Sizes → Table → ℕ → ℕ → List ℕ → Changed
-rewritten z tb e s value = changed Accepted (setValue z (tb .working) s value) (setWaiting z (tb .transient) e s)
+rewritten z tb e s value = changed Accepted (setValue z (tb .working) s value) (setWaiting (tb .transient) e s)
 
 -- by a new version
 unfoldable pub updated : Sizes → Table → ℕ → ℕ → Job → Changed

@@ -29,7 +29,7 @@ fn rewrite(
     ensures { λ r. ⌜ changed r (now (working .exit)) (now (transient .exit)) ≡ rewritten z (table (now (working .entry)) (now (transient .entry))) e s (now (value .entry)) ⌝ }
 {
     table::fill::set_value(working, z, s, value);
-    transient::notes::set_waiting(transient, z, e, s);
+    transient::lists::set_waiting(transient, z, e, s);
     Check::Accepted
 }
 

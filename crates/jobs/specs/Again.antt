@@ -12,10 +12,10 @@ use Rattle.image.specs.Line.{headerLine, storeLine}
 use Rattle.image.specs.Laws.{front-past-header, front-past-contents}
 use Rattle.image.specs.Alike.{header-alike, contents-alike}
 use Rattle.transient.specs.declared.sizes.Sizes.{Sizes}
-use Rattle.transient.specs.Layout.{note, nextUidAt, setRetired, setWaiting}
+use Rattle.transient.specs.Layout.{note, nextUidAt, setWaiting}
 use Rattle.transient.specs.Laws.{retired-front, waiting-front, beside-front}
 use Rattle.transient.specs.Store.{table}
-use Rattle.transient.specs.Requires.{Entered}
+use Rattle.transient.specs.Requires.{Entered, notes-after}
 use Rattle.transient.specs.Again.{NotesKept, TableKept, kept-front, kept-last, kept-uid, notes-kept, table-kept}
 use Rattle.table.specs.Find.{room}
 use Rattle.index.specs.Laws.{inserted-only, removed-only}
@@ -26,22 +26,23 @@ use Rattle.jobs.specs.Job.{made, superseded}
 
 module _ {wk tr : List ℕ} {z : Sizes} (y : Entered wk tr z) where
   -- ---- the notes
-  pub waiting-kept : (e s : ℕ) → NotesKept z tr (setWaiting z tr e s)
-  waiting-kept e s = kept-front (notes-kept y) (waiting-front tr z e s)
+  pub waiting-kept : (e s : ℕ) → s < z .n → NotesKept z tr (setWaiting tr e s)
+  waiting-kept e s h = kept-front (notes-kept y) (waiting-front (y .shaped .notes) e s h)
 
-  joined-kept : (e s : ℕ) → NotesKept z tr (joined z tr e s)
+  -- from notes that have been kept so far
+  joined-kept : {tr′ : List ℕ} → NotesKept z tr tr′ → (e s : ℕ) → s < z .n → NotesKept z tr (joined z tr′ e s)
   unfolding joined
-  joined-kept e s = kept-front (kept-front (notes-kept y) (retired-front tr z s 0)) (waiting-front (setRetired z tr s 0) z e s)
+  joined-kept {tr′} k e s h =
+      let r = kept-front k (retired-front tr′ z s 0) in
+      kept-front r (waiting-front (notes-after (r .long) (y .shaped .notes)) e s h)
 
-  pub freed-kept : (e s : ℕ) (name : Name) → NotesKept z tr (freed z tr e s name)
+  pub freed-kept : (e s : ℕ) (name : Name) → s < z .n → NotesKept z tr (freed z tr e s name)
   unfolding freed
-  freed-kept e s name = kept-front (joined-kept e s) (beside-front (removed-only z _ name s))
+  freed-kept e s name h = kept-front (joined-kept (notes-kept y) e s h) (beside-front (removed-only z _ name s))
 
   taken-kept : (e s : ℕ) (name : Name) → s < z .n → NotesKept z tr (taken z tr e s name)
-  unfolding taken joined
-  taken-kept e s name h =
-      kept-front (kept-front (kept-front (kept-last (notes-kept y) (y .shaped .notes) s h) (retired-front _ z s 0)) (waiting-front _ z e s))
-      (beside-front (inserted-only z _ name s))
+  unfolding taken
+  taken-kept e s name h = kept-front (joined-kept (kept-last (notes-kept y) (y .shaped .notes) s h) e s h) (beside-front (inserted-only z _ name s))
 
   -- ---- the table
   module _ {tr′ : List ℕ} (k : NotesKept z tr tr′) (s : ℕ) where

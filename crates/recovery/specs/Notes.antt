@@ -19,7 +19,7 @@ use Rattle.recovery.specs.Requires.{sizesIn}
 
 -- ---- notes of 1 to 16 threads
 pub record ThreadsIn (len n : ℕ) : Type 0 where
-  pub lo : headWords + 5 * n + 1 ≤ len
+  pub lo : headWords + 3 * n + 1 ≤ len
   pub hi : threadsOf len n ≤ 16
 
 pub threads-some : (len n : ℕ) → threadsOk len n ≡ true → ThreadsIn len n

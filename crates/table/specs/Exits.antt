@@ -26,13 +26,11 @@ use Rattle.image.specs.declared.name.Name.{Name}
 use Rattle.image.specs.Name.{jobName, nameAt, sameName}
 use Rattle.image.specs.Requires.{boardAt, Slot, HeaderFits, slot-of, slot-header, slot-after}
 use Rattle.image.specs.Laws.{area-top}
-use Rattle.image.specs.Storing.{storing-end}
 use Rattle.transient.specs.declared.sizes.Sizes.{Sizes}
 use Rattle.transient.specs.Layout.{note, lastAt, retiredIn, setNote, setRetired, setWaiting}
-use Rattle.transient.specs.Laws.{retired-front, waiting-front}
+use Rattle.transient.specs.Laws.{retired-front, waiting-long}
 use Rattle.transient.specs.Store.{Table, table}
 use Rattle.transient.specs.Requires.{Shaped, Entered, note-after, note-head, note-slot, shaped-slot, slot-note, slot-working, slot-head, entered-head}
-use Rattle.transient.specs.Clearing.{emptying-start, emptying-next}
 use Rattle.table.specs.declared.find.Lookup.the-variants.{Later, Live, Absent}
 use Rattle.table.specs.Find.{listed, newerAt, liveAt, newerOn, liveOn, liveSlot, lookup, freeAt, room}
 use Rattle.table.specs.Fill.{filledSlot, joined, taken, freed}
@@ -474,9 +472,9 @@ module _ (z : Sizes) (l : List ℕ) (s key : ℕ) (h : Header) {a b c : List ℕ
 module _ (z : Sizes) (tr : List ℕ) (e s : ℕ) where
   pub joined-long : length (joined z tr e s) ≡ length tr
   unfolding joined
-  joined-long = waiting-front (setRetired z tr s 0) z e s .head .long ∙ retired-front tr z s 0 .head .long
+  joined-long = waiting-long (setRetired z tr s 0) z e s ∙ retired-front tr z s 0 .head .long
 
-  pub joined-done : {b c : List ℕ} → b ≡ setRetired z tr s 0 → c ≡ setWaiting z b e s → c ≡ joined z tr e s
+  pub joined-done : {b c : List ℕ} → b ≡ setRetired z tr s 0 → c ≡ setWaiting b e s → c ≡ joined z tr e s
   unfolding joined
   joined-done r u = rw (u, r)
 
@@ -490,4 +488,4 @@ module _ (z : Sizes) (tr : List ℕ) (e s : ℕ) where
 
 pub ruleset finds = (next-ahead, next-round, turning-start, turning-ring, turning-header, turning-end, turning-hit, turning-next, shaped-slot, shaped-in, slot-note, slot-working, slot-head, slot-header, job-named, newer-other, newer-free, newer-epoch, live-other, live-not, live-retired, sooner-old, sooner-here, sooner-not, key-less, finding-keyed, looking-keyed, finding-start, finding-next, finding-hit, finding-end, looking-start, looking-next, lookup-later, lookup-live, lookup-absent, free-no, free-yes, entered-head, rooms-all, rooms-rest, room-one, room-none, room-two, room-alone)
 
-pub ruleset fills = (emptying-start, emptying-next, storing-end, slot-of, key-in, value-fits, value-room, key-set, value-set, slot-value, value-slot, slot-after, header-after, filled-value, filled-zeros, note-head, note-slot, note-after, joined-long, taken-done, joined-done, freed-done)
+pub ruleset fills = (slot-of, key-in, value-fits, value-room, key-set, value-set, slot-value, value-slot, slot-after, header-after, filled-value, filled-zeros, note-head, note-slot, note-after, joined-long, taken-done, joined-done, freed-done)

@@ -14,7 +14,7 @@ filledSlot z wk s h words = storeLine (storeLine wk (contentsLine (z .n) (z .w) 
 
 -- a slot joins the waiting list of e, and is not retired
 unfoldable pub joined : Sizes → List ℕ → ℕ → ℕ → List ℕ
-joined z tr e s = setWaiting z (setRetired z tr s 0) e s
+joined z tr e s = setWaiting (setRetired z tr s 0) e s
 
 -- a slot taken in epoch e, for a name: the last one taken, not retired, waiting in e, in the index
 unfoldable pub taken : Sizes → List ℕ → ℕ → ℕ → Name → List ℕ

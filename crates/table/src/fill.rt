@@ -3,26 +3,14 @@ use image::header::Header;
 use image::name::Name;
 use transient::sizes::Sizes;
 ghost use mathlib.Core.Path.{_≡_};
-ghost use Prim.Native.Nat.{_+_, _-_, _≤_};
-ghost use lib.ListN.{length, replicate, set};
+ghost use Prim.Native.Nat.{_-_};
+ghost use lib.ListN.{replicate, set};
 ghost use mathlib.Core.List.{_∷_};
 ghost use Rattle.image.specs.Layout.{contentsAt};
-ghost use Rattle.image.specs.Line.{stored};
 ghost use Rattle.image.specs.Requires.{Slot};
 ghost use Rattle.transient.specs.Requires.{NoteOf};
 ghost use Rattle.table.specs.Fill.{filledSlot, joined, taken, freed};
 ghost use Rattle.table.specs.Requires.{SlotValue, setValue};
-
-fn store_zeros(dst: &mut [u32], b: usize, k: usize)
-    requires { ⌜ b + k ≤ length (now dst) ⌝ }
-    ensures { λ _. ⌜ now (dst .exit) ≡ stored (now (dst .entry)) b (replicate k 0) k ⌝ }
-{
-    let mut j = 0;
-    while j < k {
-        dst[b + j] = 0;
-        j += 1;
-    }
-}
 
 fn set_key(img: &mut [u32], z: Sizes, s: usize, key: u32)
     requires { ⌜ Slot (now img) (z .n) (z .w) s ⌝ }
@@ -57,7 +45,7 @@ pub fn fill_zeros(img: &mut [u32], z: Sizes, s: usize, h: Header, key: u32)
 {
     set_key(img, z, s, key);
     let first = image::contents::contents_at(z.n, z.w, s) + 1;
-    store_zeros(img, first, z.w - 1);
+    image::contents::clear_from(img, first, z.w - 1);
     image::header::set_header(img, z.n, s, h);
 }
 
@@ -67,7 +55,7 @@ fn join(transient: &mut [u32], z: Sizes, e: u32, s: usize)
     ensures { λ _. ⌜ now (transient .exit) ≡ joined z (now (transient .entry)) e s ⌝ }
 {
     transient::notes::set_retired(transient, z, s, 0);
-    transient::notes::set_waiting(transient, z, e, s);
+    transient::lists::set_waiting(transient, z, e, s);
 }
 
 // What the notes say once slot s is taken in epoch e, for a name.

@@ -4,7 +4,7 @@ use mathlib.Core.Path.{_≡_, refl, sym, _∙_}
 use mathlib.Core.Bool.{Bool, true, false, not}
 use mathlib.Core.List.{List}
 use mathlib.Core.Logic.{⊎-elim}
-use lib.ListN.{length, getD, set, replicate}
+use lib.ListN.{length, set, replicate}
 use lib.Dec.{leb, ltb, eqb}
 use borrow.Author.Tests.{lt-ltb, le-ltb, le-leb, lt-leb, eq-eqb, ne-eqb, ltb-true, ltb-false, leb-true, eqb-true}
 use native.Mathlib.Omega.{arith}
@@ -13,22 +13,20 @@ use Rattle.search.specs.Some.{every, Held, held-next, loops as everies}
 use Rattle.reply.specs.declared.Check.the-variants.{Accepted, Refused}
 use Rattle.reply.specs.declared.Refusal.the-variants.{BadSizes, BadClock}
 use Rattle.image.specs.Layout.{mostSlots, mostNumber, slotsOf, widthOf, clockOf, shapeOk, clockOk}
-use Rattle.image.specs.Line.{stored}
 use Rattle.image.specs.Requires.{Sized}
 use Rattle.image.specs.Laws.{shaped}
 use Rattle.image.specs.Storing.{storings}
 use Rattle.transient.specs.declared.sizes.Sizes.{Sizes}
 use Rattle.transient.specs.Store.{store, table, sizesOf}
-use Rattle.transient.specs.Layout.{slotsAt, lastAt, nextUidAt, nextOrderAt, phaseAt, placeAt, headWords, openAt, retiredAt, listBase, waitingAt, threadsOf, threadsOk, note, openEpoch, isWaiting, setNote, setOpen, setRetired, setWaiting, setPlace, emptied, blank}
+use Rattle.transient.specs.Layout.{slotsAt, lastAt, nextUidAt, nextOrderAt, phaseAt, placeAt, headWords, openAt, retiredAt, threadsOf, threadsOk, note, openEpoch, setNote, setOpen, setRetired, setPlace, blank}
 use Rattle.transient.specs.Entry.{imagesFit, nextOk, notesFit, opensOk, entryCheck}
-use Rattle.transient.specs.Requires.{Based, ThreadRoom, Notes, Sizable, Paired, sizesAlike, sizesFit, openOk, clocksFit, Threads, Fitting, requires-laws}
+use Rattle.transient.specs.Requires.{ThreadRoom, Sizable, Paired, sizesAlike, sizesFit, openOk, clocksFit, Threads, Fitting, requires-laws}
 use Rattle.transient.specs.Laws.{threads-head}
-use Rattle.transient.specs.Clearing.{clearings}
 use Rattle.transient.specs.Passed.{sizing, sizes-t}
 
 -- ---- sizes
 -- a length too small wraps to a number that is too large
-pub threads-wrap : (len n : ℕ) {d : ℕ} → n ≤ mostSlots → d < 2 ^ 64 → (d + (headWords + 5 * n + 1)) % 2 ^ 64 ≡ len → ltb d 16 ≡ threadsOk len n
+pub threads-wrap : (len n : ℕ) {d : ℕ} → n ≤ mostSlots → d < 2 ^ 64 → (d + (headWords + 3 * n + 1)) % 2 ^ 64 ≡ len → ltb d 16 ≡ threadsOk len n
 unfolding threadsOk
 threads-wrap len n {d} h f e =
     ⊎-elim
@@ -58,14 +56,6 @@ unfolding blank
 blank-set l n uid order e = rw e
 
 -- ---- writers
-pub based-even : (n e : ℕ) → e % 2 ≡ 0 → Based n e 0
-unfolding listBase
-based-even n e h = record { same = rw (eq-eqb (e % 2) 0 h); top = omega arith }
-
-pub based-odd : (n e : ℕ) → (e % 2 ≡ 0 → ⊥) → Based n e n
-unfolding listBase
-based-odd n e h = record { same = rw (ne-eqb (e % 2) 0 h); top = omega arith }
-
 module _ (tr : List ℕ) where
   pub last-stored : (s : ℕ) → set tr lastAt s ≡ setNote lastAt tr s
   unfolding setNote
@@ -79,6 +69,9 @@ module _ (tr : List ℕ) where
   unfolding setNote
   order-stored x = refl
 
+  pub place-below : headWords ≤ length tr → placeAt < length tr
+  place-below h = omega arith
+
   pub place-stored : (phase slot : ℕ) → set (set tr phaseAt phase) placeAt slot ≡ setPlace tr phase slot
   unfolding setPlace
   place-stored phase slot = refl
@@ -91,23 +84,6 @@ module _ (tr : List ℕ) where
     pub retired-stored : (s e : ℕ) → set tr (retiredAt z s) e ≡ setRetired z tr s e
     unfolding setRetired
     retired-stored s e = refl
-
-    pub waiting-stored : (e s : ℕ) {b : ℕ} → Based (z .n) e b → set tr (headWords + z .t + z .n + b + s) 1 ≡ setWaiting z tr e s
-    unfolding setWaiting
-    waiting-stored e s y = rw (y .same)
-
-    pub waiting-is : (e s : ℕ) {b : ℕ} → Based (z .n) e b → not (eqb (getD tr (headWords + z .t + z .n + b + s) 0) 0) ≡ isWaiting z tr e s
-    unfolding isWaiting
-    waiting-is e s y = rw (← y .same)
-
-    pub list-room : (e : ℕ) {b : ℕ} → Notes tr z → Based (z .n) e b → headWords + z .t + z .n + b + z .n ≤ length tr
-    list-room e y h = omega (arith, y .long, h .top)
-
-    pub list-emptied : (e : ℕ) {b : ℕ} {tr′ : List ℕ} → Based (z .n) e b → tr′ ≡ stored tr (headWords + z .t + z .n + b) (replicate (z .n) 0) (z .n) → tr′ ≡ emptied z tr e
-    unfolding emptied
-    list-emptied e y h =
-        let at : waitingAt z e 0 ≡ headWords + z .t + z .n + listBase (z .n) e = omega arith in
-        rw (at, ← y .same) h
 
 -- ---- refusal 1
 module _ (wk l : List ℕ) where
@@ -293,6 +269,6 @@ module _ (wk l tr : List ℕ) {s : Bool} (sf : s ≡ sizesFit wk l tr) where
           unfolding entryCheck sizesFit clocksFit
           entry-fine e = let q : clocksFit wk l tr (sizesOf (table wk tr) .t) ≡ true = rw (sizes-t wk tr, ← at, ← ts) (sym ck ∙ e) in rw (← sf, st, q)
 
-pub ruleset laws = (tests, requires-laws, storings, clearings, threads-wrap, sizable-room, sizes-made, blank-set, based-even, based-odd, last-stored, uid-stored, order-stored, place-stored, open-stored, retired-stored, waiting-stored, waiting-is, list-room, list-emptied)
+pub ruleset laws = (tests, requires-laws, storings, threads-wrap, sizable-room, sizes-made, blank-set, last-stored, uid-stored, order-stored, place-below, place-stored, open-stored, retired-stored)
 
 pub ruleset entries = (everies, alike-slots, alike-width, images-working, images-length, images-paired, images-alike, notes-slots, notes-last, notes-place, notes-uid, notes-order, next-low, next-top, sizes-images, images-in, images-slots-hi, sizes-threads, sizes-notes, threads-room, fitting-threads, open-none, open-now, open-before, held-sure, opens-is, clocks-bad, clocks-differ, clocks-opens, entry-sizes, entry-in, entry-room, entry-fitting, entry-clock, entry-fine)

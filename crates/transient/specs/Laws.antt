@@ -1,68 +1,23 @@
 -- Get/set laws of the notes, by name: what each writer leaves in its own note, and that the other notes stay.
-use Prim.Native.Nat.{ℕ, _+_, _-_, _%_, _≤_, _<_}
+use Prim.Native.Nat.{ℕ, _+_, _-_, _/_, _%_, _≤_, _<_}
 use mathlib.Core.Path.{_≡_, refl, _∙_, ap}
 use mathlib.Core.Logic.{_≢_, _⊎_, inl, inr, ⊎-elim}
 use mathlib.Core.Bool.{true, false}
 use mathlib.Core.List.{List}
 use lib.ListN.{length, getD, set, replicate, length-set, length-replicate, getD-replicate, List·getD-eq-default}
 use lib.Seq.{getD-set-same, getD-set-other}
-use lib.Dec.{leb, eqb}
-use borrow.Author.Tests.{eq-eqb, ne-eqb, eqb-true, eqb-false, leb-true}
+use lib.Dec.{leb}
+use borrow.Author.Tests.{leb-true}
 use native.Mathlib.Omega.{arith}
 use native.Mathlib.Decide.{ℕ-discrete, decLt}
-use Rattle.search.specs.Bools.{cases, and-left}
+use Rattle.search.specs.Bools.{and-left}
+use Rattle.image.specs.Layout.{mostSlots}
 use Rattle.image.specs.Laws.{length-stored, stored-outside, stored-inside}
 use Rattle.transient.specs.declared.sizes.Sizes.{Sizes}
-use Rattle.transient.specs.Layout.{slotsAt, lastAt, nextUidAt, nextOrderAt, phaseAt, placeAt, headWords, openAt, retiredAt, listBase, waitingAt, indexAt, threadsOf, threadsOk, note, openEpoch, retiredIn, isWaiting, setNote, setOpen, setRetired, setWaiting, setPlace, emptied, blank}
+use Rattle.transient.specs.Layout.{slotsAt, lastAt, nextUidAt, nextOrderAt, phaseAt, placeAt, listsAt, headWords, openAt, retiredAt, waitingAt, indexAt, threadsOf, threadsOk, note, openEpoch, retiredIn, hasBit, isWaiting, setNote, setOpen, setRetired, withBit, setWaiting, setPlace, emptied, blank}
 use Rattle.transient.specs.Requires.{Notes}
-
--- ---- the two lists
-pub base-top : (n e : ℕ) → listBase n e ≤ n
-unfolding listBase
-base-top n e =
-    ⊎-elim
-    (λ (t : eqb (e % 2) 0 ≡ true). rw t (omega arith))
-    (λ (f : eqb (e % 2) 0 ≡ false). rw f (omega arith))
-    (cases (eqb (e % 2) 0))
-
--- a list is that of every second epoch
-base-again : (n e : ℕ) → listBase n (e + 2) ≡ listBase n e
-unfolding listBase
-base-again n e = let q : (e + 2) % 2 ≡ e % 2 = omega arith in rw q
-
--- the lists of two neighbours are two
-base-cases : (n e : ℕ) → ((listBase n e ≡ 0) × (listBase n (e + 1) ≡ n)) ⊎ ((listBase n e ≡ n) × (listBase n (e + 1) ≡ 0))
-unfolding listBase
-base-cases n e =
-    ⊎-elim
-    (λ (t : eqb (e % 2) 0 ≡ true). let z = eqb-true (e % 2) 0 t in let o : ((e + 1) % 2 ≡ 0 → ⊥) = λ q. omega arith in inl (rw t, rw (ne-eqb ((e + 1) % 2) 0 o)))
-    (λ (f : eqb (e % 2) 0 ≡ false). let z = eqb-false (e % 2) 0 f in let o : (e + 1) % 2 ≡ 0 = omega arith in inr (rw f, rw (eq-eqb ((e + 1) % 2) 0 o)))
-    (cases (eqb (e % 2) 0))
-
-base-is : (n e : ℕ) → (listBase n e ≡ 0) ⊎ (listBase n e ≡ n)
-base-is n e = ⊎-elim (λ b. inl (b .0)) (λ b. inr (b .0)) (base-cases n e)
-
--- two slots' flags lie apart, in whichever lists
-flags-apart : (z : Sizes) (e d s m : ℕ) → s < z .n → m < z .n → m ≢ s → waitingAt z e m ≢ waitingAt z d s
-flags-apart z e d s m h k q p =
-    ⊎-elim (λ a. ⊎-elim (λ b. q (omega arith)) (λ b. omega arith) (base-is (z .n) d)) (λ a. ⊎-elim (λ b. omega arith) (λ b. q (omega arith)) (base-is (z .n) d)) (base-is (z .n) e)
-
-module _ (z : Sizes) (tr tr′ : List ℕ) (e m : ℕ) where
-  flag-same : getD tr′ (waitingAt z e m) 0 ≡ getD tr (waitingAt z e m) 0 → isWaiting z tr′ e m ≡ isWaiting z tr e m
-  unfolding isWaiting
-  flag-same q = rw q
-
-flag-one : (z : Sizes) (tr : List ℕ) (e m : ℕ) → getD tr (waitingAt z e m) 0 ≡ 1 → isWaiting z tr e m ≡ true
-unfolding isWaiting
-flag-one z tr e m q = rw q
-
-flag-zero : (z : Sizes) (tr : List ℕ) (e m : ℕ) → getD tr (waitingAt z e m) 0 ≡ 0 → isWaiting z tr e m ≡ false
-unfolding isWaiting
-flag-zero z tr e m q = rw q
-
-pub waiting-again : (z : Sizes) (tr : List ℕ) (e m : ℕ) → isWaiting z tr (e + 2) m ≡ isWaiting z tr e m
-unfolding isWaiting
-waiting-again z tr e m = rw (base-again (z .n) e)
+use Rattle.transient.specs.Bits.{bit-same, bit-other, bit-none}
+use Rattle.transient.specs.Lists.{word-low, word-high, bits-apart, word-same}
 
 -- ---- a frame: all words but the k from `at` on stay
 record Only (tr tr′ : List ℕ) (at k : ℕ) : Type 0 where
@@ -99,22 +54,19 @@ module _ (tr : List ℕ) where
         words = λ j o. b .words j (⊎-elim (λ h. inl (omega arith)) (λ h. inr (omega arith)) o) ∙ a .words j (⊎-elim (λ h. inl h) (λ h. inr (omega arith)) o);
       }
 
+  waiting-only : (e s : ℕ) → Only tr (setWaiting tr e s) (waitingAt e s) 1
+  unfolding setWaiting
+  waiting-only e s = one-word tr (waitingAt e s) (withBit (getD tr (waitingAt e s) 0) (s % 32))
+
+  list-only : (e : ℕ) → Only tr (emptied tr e) (waitingAt e 0) 32
+  unfolding emptied
+  list-only e =
+      record { long = length-stored tr (waitingAt e 0) (replicate 32 0) 32; words = λ j o. stored-outside tr (waitingAt e 0) (replicate 32 0) 32 j o }
+
   module _ (z : Sizes) where
     retired-only : (s e : ℕ) → Only tr (setRetired z tr s e) (retiredAt z s) 1
     unfolding setRetired
     retired-only s e = one-word tr (retiredAt z s) e
-
-    waiting-only : (e s : ℕ) → Only tr (setWaiting z tr e s) (waitingAt z e s) 1
-    unfolding setWaiting
-    waiting-only e s = one-word tr (waitingAt z e s) 1
-
-    list-only : (e : ℕ) → Only tr (emptied z tr e) (waitingAt z e 0) (z .n)
-    unfolding emptied
-    list-only e =
-        record {
-          long = length-stored tr (waitingAt z e 0) (replicate (z .n) 0) (z .n);
-          words = λ j o. stored-outside tr (waitingAt z e 0) (replicate (z .n) 0) (z .n) j o;
-        }
 
 -- ---- by name: what is no slot's, and what is a slot's
 -- the threads' operations and the place
@@ -138,7 +90,7 @@ front-same = record { head = record { long = refl; opens = λ u h. refl; phase =
 -- a slot's retirement, and whether it waits in each list
 pub record SlotKept (z : Sizes) (tr tr′ : List ℕ) (m : ℕ) : Type 0 where
   pub retired : retiredIn z tr′ m ≡ retiredIn z tr m
-  pub waiting : (d : ℕ) → isWaiting z tr′ d m ≡ isWaiting z tr d m
+  pub waiting : (d : ℕ) → isWaiting tr′ d m ≡ isWaiting tr d m
 
 pub head-then : {z : Sizes} {a b c : List ℕ} → HeadKept z a b → HeadKept z b c → HeadKept z a c
 head-then x y =
@@ -180,35 +132,40 @@ module _ {z : Sizes} {tr tr′ : List ℕ} (o : IndexOnly z tr tr′) where
   beside-slots m h =
       record {
         retired = o .words (retiredAt z m) (omega arith);
-        waiting = λ d. flag-same z tr tr′ d m (o .words (waitingAt z d m) (omega (arith, base-top (z .n) d)));
+        waiting = λ d. word-same tr tr′ d m (o .words (waitingAt d m) (omega arith));
       }
 
 module _ {tr tr′ : List ℕ} {at k : ℕ} (o : Only tr tr′ at k) where
-  -- what is written before the place or among the slots leaves the head
-  head-kept : (z : Sizes) → (at + k ≤ phaseAt) ⊎ (headWords + z .t ≤ at) → HeadKept z tr tr′
+  -- what is written before the place leaves the head
+  head-kept : (z : Sizes) → at + k ≤ phaseAt → HeadKept z tr tr′
   head-kept z c =
       record {
         long = o .long;
-        opens = λ u h. o .words (openAt u) (⊎-elim (λ q. inr (omega arith)) (λ q. inl (omega arith)) c);
-        phase = o .words phaseAt (⊎-elim (λ q. inr q) (λ q. inl (omega arith)) c);
-        slot = o .words placeAt (⊎-elim (λ q. inr (omega arith)) (λ q. inl (omega arith)) c);
+        opens = λ u h. o .words (openAt u) (inr (omega arith));
+        phase = o .words phaseAt (inr c);
+        slot = o .words placeAt (inr (omega arith));
       }
 
-  -- what is written among the slots leaves the whole head
-  front-kept : (z : Sizes) → headWords + z .t ≤ at → FrontKept z tr tr′
-  front-kept z h =
+  -- what is written in the lists or among the slots leaves the whole head
+  front-kept : (z : Sizes) → listsAt ≤ at → (at + k ≤ headWords) ⊎ (headWords + z .t ≤ at) → FrontKept z tr tr′
+  front-kept z h c =
       record {
-        head = head-kept z (inr h);
+        head =
+            record {
+              long = o .long;
+              opens = λ u i. o .words (openAt u) (⊎-elim (λ q. inr (omega arith)) (λ q. inl (omega arith)) c);
+              phase = o .words phaseAt (inl (omega arith));
+              slot = o .words placeAt (inl (omega arith));
+            };
         noted = o .words slotsAt (inl (omega arith));
         last = o .words lastAt (inl (omega arith));
         uid = o .words nextUidAt (inl (omega arith));
         order = o .words nextOrderAt (inl (omega arith));
       }
 
-  -- what is written before the slots leaves every slot's
-  slot-kept : (z : Sizes) → at + k ≤ headWords + z .t → (m : ℕ) → SlotKept z tr tr′ m
-  slot-kept z h m =
-      record { retired = o .words (retiredAt z m) (inr (omega arith)); waiting = λ d. flag-same z tr tr′ d m (o .words (waitingAt z d m) (inr (omega arith))) }
+  -- what is written before the lists leaves every slot's
+  slot-kept : (z : Sizes) → at + k ≤ listsAt → (m : ℕ) → SlotKept z tr tr′ m
+  slot-kept z h m = record { retired = o .words (retiredAt z m) (inr (omega arith)); waiting = λ d. word-same tr tr′ d m (o .words (waitingAt d m) (inr (omega arith))) }
 
   -- what is written before the index leaves it
   index-kept : (z : Sizes) → at + k ≤ indexAt z → IndexKept z tr tr′
@@ -224,7 +181,7 @@ module _ {tr tr′ : List ℕ} {at k : ℕ} (o : Only tr tr′ at k) where
 module _ (tr : List ℕ) (z : Sizes) where
   module _ (s : ℕ) where
     pub last-head : HeadKept z tr (setNote lastAt tr s)
-    last-head = head-kept (last-only tr s) z (inl (omega arith))
+    last-head = head-kept (last-only tr s) z (omega arith)
 
     pub last-slots : (m : ℕ) → SlotKept z tr (setNote lastAt tr s) m
     last-slots = slot-kept (last-only tr s) z (omega arith)
@@ -243,7 +200,7 @@ module _ (tr : List ℕ) (z : Sizes) where
 
   module _ (u : ℕ) where
     pub uid-head : HeadKept z tr (setNote nextUidAt tr u)
-    uid-head = head-kept (uid-only tr u) z (inl (omega arith))
+    uid-head = head-kept (uid-only tr u) z (omega arith)
 
     pub uid-slots : (m : ℕ) → SlotKept z tr (setNote nextUidAt tr u) m
     uid-slots = slot-kept (uid-only tr u) z (omega arith)
@@ -262,7 +219,7 @@ module _ (tr : List ℕ) (z : Sizes) where
 
   module _ (x : ℕ) where
     pub order-head : HeadKept z tr (setNote nextOrderAt tr x)
-    order-head = head-kept (order-only tr x) z (inl (omega arith))
+    order-head = head-kept (order-only tr x) z (omega arith)
 
     pub order-slots : (m : ℕ) → SlotKept z tr (setNote nextOrderAt tr x) m
     order-slots = slot-kept (order-only tr x) z (omega arith)
@@ -274,8 +231,13 @@ module _ (tr : List ℕ) (z : Sizes) where
     order-uid = uid-kept (order-only tr x) (inr (omega arith))
 
   module _ (thread e : ℕ) where
-    pub open-slots : thread < z .t → (m : ℕ) → SlotKept z tr (setOpen tr thread e) m
-    open-slots h = slot-kept (open-only tr thread e) z (omega arith)
+    pub open-slots : thread < z .t → (m : ℕ) → m < mostSlots → SlotKept z tr (setOpen tr thread e) m
+    open-slots h m k =
+        let o = open-only tr thread e in
+        record {
+          retired = o .words (retiredAt z m) (inr (omega arith));
+          waiting = λ d. word-same tr (setOpen tr thread e) d m (o .words (waitingAt d m) (inl (omega (arith, word-high d m k))));
+        }
 
     pub open-index : thread < z .t → IndexKept z tr (setOpen tr thread e)
     open-index h = index-kept (open-only tr thread e) z (omega arith)
@@ -322,24 +284,21 @@ module _ (tr : List ℕ) (z : Sizes) where
 
   module _ (s e : ℕ) where
     pub retired-front : FrontKept z tr (setRetired z tr s e)
-    retired-front = front-kept (retired-only tr z s e) z (omega arith)
+    retired-front = front-kept (retired-only tr z s e) z (omega arith) (inr (omega arith))
 
     pub retired-index : s < z .n → IndexKept z tr (setRetired z tr s e)
     retired-index h = index-kept (retired-only tr z s e) z (omega arith)
 
   module _ (e s : ℕ) where
-    pub waiting-front : FrontKept z tr (setWaiting z tr e s)
-    waiting-front = front-kept (waiting-only tr z e s) z (omega arith)
-
-    pub waiting-index : s < z .n → IndexKept z tr (setWaiting z tr e s)
-    waiting-index h = index-kept (waiting-only tr z e s) z (omega (arith, base-top (z .n) e))
+    pub waiting-long : length (setWaiting tr e s) ≡ length tr
+    waiting-long = waiting-only tr e s .long
 
   module _ (e : ℕ) where
-    pub emptied-front : FrontKept z tr (emptied z tr e)
-    emptied-front = front-kept (list-only tr z e) z (omega arith)
+    pub emptied-front : FrontKept z tr (emptied tr e)
+    emptied-front = front-kept (list-only tr e) z (word-low e 0) (inl (omega arith))
 
-    pub emptied-index : IndexKept z tr (emptied z tr e)
-    emptied-index = index-kept (list-only tr z e) z (omega (arith, base-top (z .n) e))
+    pub emptied-index : IndexKept z tr (emptied tr e)
+    emptied-index = index-kept (list-only tr e) z (omega arith)
 
 -- ---- blank notes
 pub zeros-at : (k j : ℕ) → _≡_ {A = ℕ} (getD (replicate k 0) j 0) 0
@@ -424,60 +383,78 @@ module _ {tr : List ℕ} {z : Sizes} (y : Notes tr z) where
   unfolding setOpen
   open-other thread e u d = getD-set-other tr (openAt thread) (openAt u) e 0 (λ q. d (omega arith))
 
+  few : (s : ℕ) → s < z .n → s < mostSlots
+  few s h = omega (arith, y .slots-hi)
+
   -- a slot retired, or no longer: the other slots' notes stay, and all lists
   pub retired-same : (s e : ℕ) → s < z .n → retiredIn z (setRetired z tr s e) s ≡ e
   unfolding setRetired
   retired-same s e h = getD-set-same tr (retiredAt z s) e 0 (omega (arith, y .long))
 
-  pub retired-waiting : (s e d m : ℕ) → s < z .n → isWaiting z (setRetired z tr s e) d m ≡ isWaiting z tr d m
-  retired-waiting s e d m h = flag-same z tr (setRetired z tr s e) d m (retired-only tr z s e .words (waitingAt z d m) (inr (omega arith)))
+  pub retired-waiting : (s e d m : ℕ) → m < z .n → isWaiting (setRetired z tr s e) d m ≡ isWaiting tr d m
+  retired-waiting s e d m h = word-same tr (setRetired z tr s e) d m (retired-only tr z s e .words (waitingAt d m) (inl (omega (arith, word-high d m (few m h)))))
 
-  pub retired-aside : (s e m : ℕ) → s < z .n → m ≢ s → SlotKept z tr (setRetired z tr s e) m
+  pub retired-aside : (s e m : ℕ) → m < z .n → m ≢ s → SlotKept z tr (setRetired z tr s e) m
   unfolding setRetired
   retired-aside s e m h d =
-      record {
-        retired = getD-set-other tr (retiredAt z s) (retiredAt z m) e 0 (λ q. d (omega arith));
-        waiting = λ f. flag-same z tr (set tr (retiredAt z s) e) f m (getD-set-other tr (retiredAt z s) (waitingAt z f m) e 0 (λ q. omega arith));
-      }
+      record { retired = getD-set-other tr (retiredAt z s) (retiredAt z m) e 0 (λ q. d (omega arith)); waiting = λ f. retired-waiting s e f m h }
 
   -- a slot joins a list: it leaves none, and the other slots' notes stay
-  pub waiting-joined : (e s : ℕ) → s < z .n → isWaiting z (setWaiting z tr e s) e s ≡ true
-  unfolding setWaiting
-  waiting-joined e s h = flag-one z (set tr (waitingAt z e s) 1) e s (getD-set-same tr (waitingAt z e s) 1 0 (omega (arith, y .long, base-top (z .n) e)))
+  module _ (e s : ℕ) (h : s < z .n) where
+    list-room : waitingAt e s < length tr
+    list-room = omega (arith, word-high e s (few s h), y .long)
 
-  pub waiting-stays : (e s d : ℕ) → s < z .n → isWaiting z tr d s ≡ true → isWaiting z (setWaiting z tr e s) d s ≡ true
-  unfolding setWaiting
-  waiting-stays e s d h k = elim (ℕ-discrete (waitingAt z d s) (waitingAt z e s)) [
-    | yes q ↦ flag-one z (set tr (waitingAt z e s) 1) d s (ap (λ i. getD (set tr (waitingAt z e s) 1) i 0) q ∙ getD-set-same tr (waitingAt z e s) 1 0 (omega (arith, y .long, base-top (z .n) e)))
-    | no q ↦ flag-same z tr (set tr (waitingAt z e s) 1) d s (getD-set-other tr (waitingAt z e s) (waitingAt z d s) 1 0 q) ∙ k
-  ]
+    pub waiting-front : FrontKept z tr (setWaiting tr e s)
+    waiting-front = front-kept (waiting-only tr e s) z (word-low e s) (inl (omega (arith, word-high e s (few s h))))
 
-  pub waiting-retired : (e s m : ℕ) → m < z .n → retiredIn z (setWaiting z tr e s) m ≡ retiredIn z tr m
-  waiting-retired e s m h = waiting-only tr z e s .words (retiredAt z m) (inl (omega arith))
+    pub waiting-index : IndexKept z tr (setWaiting tr e s)
+    waiting-index = index-kept (waiting-only tr e s) z (omega (arith, word-high e s (few s h)))
 
-  pub waiting-aside : (e s m : ℕ) → s < z .n → m < z .n → m ≢ s → SlotKept z tr (setWaiting z tr e s) m
-  unfolding setWaiting
-  waiting-aside e s m h k d =
-      record {
-        retired = getD-set-other tr (waitingAt z e s) (retiredAt z m) 1 0 (λ q. omega arith);
-        waiting = λ f. flag-same z tr (set tr (waitingAt z e s) 1) f m (getD-set-other tr (waitingAt z e s) (waitingAt z f m) 1 0 (flags-apart z f e s m h k d));
-      }
+    -- its word, and the others
+    module _ (d m : ℕ) where
+      same-word : waitingAt d m ≡ waitingAt e s → isWaiting (setWaiting tr e s) d m ≡ hasBit (withBit (getD tr (waitingAt d m) 0) (s % 32)) (m % 32)
+      unfolding isWaiting setWaiting
+      same-word q = rw (q, getD-set-same tr (waitingAt e s) (withBit (getD tr (waitingAt e s) 0) (s % 32)) 0 list-room)
+
+      other-word : waitingAt d m ≢ waitingAt e s → isWaiting (setWaiting tr e s) d m ≡ isWaiting tr d m
+      unfolding setWaiting
+      other-word q = word-same tr (setWaiting tr e s) d m (getD-set-other tr (waitingAt e s) (waitingAt d m) (withBit (getD tr (waitingAt e s) 0) (s % 32)) 0 q)
+
+    pub waiting-joined : isWaiting (setWaiting tr e s) e s ≡ true
+    waiting-joined = same-word e s refl ∙ bit-same (s % 32) (getD tr (waitingAt e s) 0)
+
+    pub waiting-stays : (d : ℕ) → isWaiting tr d s ≡ true → isWaiting (setWaiting tr e s) d s ≡ true
+    waiting-stays d k = elim (ℕ-discrete (waitingAt d s) (waitingAt e s)) [
+      | yes q ↦ same-word d s q ∙ bit-same (s % 32) (getD tr (waitingAt d s) 0)
+      | no q ↦ other-word d s q ∙ k
+    ]
+
+    pub waiting-retired : (m : ℕ) → m < z .n → retiredIn z (setWaiting tr e s) m ≡ retiredIn z tr m
+    waiting-retired m k = waiting-only tr e s .words (retiredAt z m) (inr (omega (arith, word-high e s (few s h))))
+
+    pub waiting-aside : (m : ℕ) → m < z .n → m ≢ s → SlotKept z tr (setWaiting tr e s) m
+    unfolding isWaiting
+    waiting-aside m k o = record { retired = waiting-retired m k; waiting = beside }
+      where
+        beside : (d : ℕ) → isWaiting (setWaiting tr e s) d m ≡ isWaiting tr d m
+        beside d = elim (ℕ-discrete (waitingAt d m) (waitingAt e s)) [
+          | yes q ↦ same-word d m q ∙ bit-other (m % 32) (s % 32) (getD tr (waitingAt d m) 0) (bits-apart d m e s (few m k) (few s h) o q)
+          | no q ↦ other-word d m q
+        ]
 
   -- a list emptied: the other one stays, and so does what is retired
-  pub emptied-none : (e s : ℕ) → s < z .n → isWaiting z (emptied z tr e) e s ≡ false
-  unfolding emptied
+  pub emptied-none : (e s : ℕ) → s < z .n → isWaiting (emptied tr e) e s ≡ false
+  unfolding emptied isWaiting
   emptied-none e s h =
-      let at : waitingAt z e s ≡ waitingAt z e 0 + s = omega arith in
-      flag-zero z (stored-list e) e s
-      (rw at (stored-inside tr (waitingAt z e 0) (replicate (z .n) 0) (z .n) s h (omega (arith, y .long, base-top (z .n) e)) ∙ getD-replicate (z .n) s 0 0 h))
-    where
-      stored-list : ℕ → List ℕ
-      stored-list e = emptied z tr e
+      let at : waitingAt e s ≡ waitingAt e 0 + s / 32 = omega arith in
+      let low : s / 32 < 32 = omega (arith, y .slots-hi) in
+      let none : getD (emptied tr e) (waitingAt e s) 0 ≡ 0 = rw at (stored-inside tr (waitingAt e 0) (replicate 32 0) 32 (s / 32) low (omega (arith, y .long)) ∙ getD-replicate 32 (s / 32) 0 0 low) in
+      rw none (bit-none (s % 32))
 
-  pub emptied-next : (e s : ℕ) → s < z .n → isWaiting z (emptied z tr e) (e + 1) s ≡ isWaiting z tr (e + 1) s
+  pub emptied-next : (e s : ℕ) → s < z .n → isWaiting (emptied tr e) (e + 1) s ≡ isWaiting tr (e + 1) s
   emptied-next e s h =
-      flag-same z tr (emptied z tr e) (e + 1) s
-      (list-only tr z e .words (waitingAt z (e + 1) s) (⊎-elim (λ b. inr (omega (arith, b .0, b .1))) (λ b. inl (omega (arith, b .0, b .1))) (base-cases (z .n) e)))
+      word-same tr (emptied tr e) (e + 1) s
+      (list-only tr e .words (waitingAt (e + 1) s) (elim (ℕ-discrete (e % 2) 0) [ yes q ↦ inr (omega arith) | no q ↦ inl (omega (arith, y .slots-hi)) ]))
 
-  pub emptied-retired : (e m : ℕ) → m < z .n → retiredIn z (emptied z tr e) m ≡ retiredIn z tr m
-  emptied-retired e m h = list-only tr z e .words (retiredAt z m) (inl (omega arith))
+  pub emptied-retired : (e m : ℕ) → m < z .n → retiredIn z (emptied tr e) m ≡ retiredIn z tr m
+  emptied-retired e m h = list-only tr e .words (retiredAt z m) (inr (omega arith))

@@ -2,7 +2,7 @@
 -- T threads (1 to 16) its open epoch or none; which payloads are retired, and in which epoch; a waiting list of slots for each
 -- recent epoch; the last slot taken; the next uid; the place an advance has reached." 02, No. 3: the next order number. No. 6: "keep a
 -- hashed index in the notes". They also say their N.
-use Prim.Native.Nat.{ℕ, _+_, _*_, _-_, _%_}
+use Prim.Native.Nat.{ℕ, _+_, _*_, _-_, _/_, _%_, _^_}
 use mathlib.Core.Bool.{Bool, not, cond, _&&_}
 use mathlib.Core.List.{List}
 use lib.ListN.{getD, set, replicate}
@@ -10,7 +10,7 @@ use lib.Dec.{leb, eqb}
 use Rattle.image.specs.Line.{stored}
 use Rattle.transient.specs.declared.sizes.Sizes.{Sizes}
 
--- ---- where words stand: a head, then the threads, the slots, and the index
+-- ---- where words stand: a head, which ends in the waiting lists; then the threads, the slots, and the index
 abbrev pub slotsAt : ℕ
 slotsAt = 0
 
@@ -29,8 +29,11 @@ phaseAt = 4
 abbrev pub placeAt : ℕ
 placeAt = 5
 
+abbrev pub listsAt : ℕ
+listsAt = 6
+
 abbrev pub headWords : ℕ
-headWords = 6
+headWords = 70
 
 abbrev pub openAt : ℕ → ℕ
 openAt thread = headWords + thread
@@ -38,29 +41,26 @@ openAt thread = headWords + thread
 abbrev pub retiredAt : Sizes → ℕ → ℕ
 retiredAt z s = headWords + z .t + s
 
--- the waiting list of an epoch is kept as flags: N for the even one of two neighbours, then N for the odd one
-unfoldable pub listBase : ℕ → ℕ → ℕ
-listBase n e = cond (eqb (e % 2) 0) 0 n
-
-abbrev pub waitingAt : Sizes → ℕ → ℕ → ℕ
-waitingAt z e s = headWords + z .t + z .n + listBase (z .n) e + s
+-- the waiting list of an epoch has a bit for each slot, in 32 words of 32: those of the even one of two neighbours, then of the odd one
+abbrev pub waitingAt : ℕ → ℕ → ℕ
+waitingAt e s = listsAt + 32 * (e % 2) + s / 32
 
 -- the index: for each of N buckets the link to its chain's first slot, then each slot's link to the next one
 abbrev pub indexAt : Sizes → ℕ
-indexAt z = headWords + z .t + 3 * z .n
+indexAt z = headWords + z .t + z .n
 
 abbrev pub bucketAt : Sizes → ℕ → ℕ
-bucketAt z b = headWords + z .t + 3 * z .n + b
+bucketAt z b = headWords + z .t + z .n + b
 
 abbrev pub linkAt : Sizes → ℕ → ℕ
-linkAt z s = headWords + z .t + 4 * z .n + s
+linkAt z s = headWords + z .t + 2 * z .n + s
 
 abbrev pub transientWords : ℕ → ℕ → ℕ
-transientWords n t = headWords + t + 5 * n
+transientWords n t = headWords + t + 3 * n
 
 -- how many threads a length leaves for n slots
 abbrev pub threadsOf : ℕ → ℕ → ℕ
-threadsOf len n = len - (headWords + 5 * n)
+threadsOf len n = len - (headWords + 3 * n)
 
 -- "T threads (1 to 16)"
 unfoldable pub threadsOk : ℕ → ℕ → Bool
@@ -80,8 +80,12 @@ openEpoch tr thread = getD tr (openAt thread) 0
 abbrev pub retiredIn : Sizes → List ℕ → ℕ → ℕ
 retiredIn z tr s = getD tr (retiredAt z s) 0
 
-unfoldable pub isWaiting : Sizes → List ℕ → ℕ → ℕ → Bool
-isWaiting z tr e s = not (eqb (getD tr (waitingAt z e s) 0) 0)
+-- bit j of a word
+unfoldable pub hasBit : ℕ → ℕ → Bool
+hasBit x j = eqb (x / 2 ^ j % 2) 1
+
+unfoldable pub isWaiting : List ℕ → ℕ → ℕ → Bool
+isWaiting tr e s = hasBit (getD tr (waitingAt e s) 0) (s % 32)
 
 -- ---- writers
 -- a word of the head, set
@@ -97,12 +101,16 @@ setOpen tr thread e = set tr (openAt thread) e
 unfoldable pub setRetired : Sizes → List ℕ → ℕ → ℕ → List ℕ
 setRetired z tr s e = set tr (retiredAt z s) e
 
-unfoldable pub setWaiting : Sizes → List ℕ → ℕ → ℕ → List ℕ
-setWaiting z tr e s = set tr (waitingAt z e s) 1
+-- a word with bit j set
+unfoldable pub withBit : ℕ → ℕ → ℕ
+withBit x j = cond (hasBit x j) x (x + 2 ^ j)
+
+unfoldable pub setWaiting : List ℕ → ℕ → ℕ → List ℕ
+setWaiting tr e s = set tr (waitingAt e s) (withBit (getD tr (waitingAt e s) 0) (s % 32))
 
 -- the waiting list of e, emptied
-unfoldable pub emptied : Sizes → List ℕ → ℕ → List ℕ
-emptied z tr e = stored tr (waitingAt z e 0) (replicate (z .n) 0) (z .n)
+unfoldable pub emptied : List ℕ → ℕ → List ℕ
+emptied tr e = stored tr (waitingAt e 0) (replicate 32 0) 32
 
 -- "nothing open, retired, waiting or underway", for n slots; the search for a free slot begins at 0, after the last
 unfoldable pub blank : ℕ → ℕ → ℕ → ℕ → List ℕ

@@ -3,8 +3,10 @@ pub mod Store
 pub mod Entry
 pub mod Calls
 pub mod Requires
+pub mod Bits
+pub mod Lists
 pub mod Laws
-pub mod Clearing
 pub mod Passed
 pub mod Again
 pub mod Exits
+pub mod ListExits

@@ -9,7 +9,7 @@ use native.Mathlib.Omega.{arith}
 use Rattle.image.specs.Layout.{mostSlots, mostNumber, slotsOf, widthOf, clockOf, clockOk}
 use Rattle.image.specs.Requires.{Sized, Slot, HeaderFits, slot, header-fits}
 use Rattle.transient.specs.declared.sizes.Sizes.{Sizes}
-use Rattle.transient.specs.Layout.{headWords, listBase, transientWords, threadsOk, note, lastAt, nextUidAt, nextOrderAt, placeAt}
+use Rattle.transient.specs.Layout.{headWords, waitingAt, transientWords, threadsOk, note, lastAt, nextUidAt, nextOrderAt, placeAt}
 use Rattle.transient.specs.Entry.{imagesFit, notesFit, opensOk}
 
 -- ---- the notes alone
@@ -17,14 +17,14 @@ pub record InReach (n t : ℕ) : Type 0 where
   pub slots-hi : n ≤ mostSlots
   pub threads-hi : t ≤ 16
 
--- one of N buckets or slots, in the index
+-- one of N buckets or slots
 pub record InIndex (z : Sizes) (s : ℕ) : Type 0 where
   pub sizes : InReach (z .n) (z .t)
   pub within : s < z .n
 
 pub record ThreadRoom (len n : ℕ) : Type 0 where
   pub slots-hi : n ≤ mostSlots
-  pub room : headWords + 5 * n ≤ len
+  pub room : headWords + 3 * n ≤ len
 
 -- notes to be set, for n slots
 pub record Blanking (tr : List ℕ) (n : ℕ) : Type 0 where
@@ -44,10 +44,17 @@ pub record ThreadOf (tr : List ℕ) (z : Sizes) (thread : ℕ) : Type 0 where
   pub notes : Notes tr z
   pub within : thread < z .t
 
--- where the flags of an epoch's list begin, behind those of the even epochs
-pub record Based (n e b : ℕ) : Type 0 where
-  pub same : b ≡ listBase n e
-  pub top : b ≤ n
+-- ---- the waiting lists
+-- where an epoch's list begins, and where it has the word of a slot, which is one of the head
+pub record Listed (e b : ℕ) : Type 0 where
+  pub same : b ≡ waitingAt e 0
+  pub top : b + 32 ≤ headWords
+
+pub record Worded (e s b : ℕ) : Type 0 where
+  pub same : b ≡ waitingAt e s
+  pub top : b < headWords
+
+-- ---- sizes
 
 -- a head to read, and the sizes with it
 pub record Sizable (wk tr : List ℕ) : Type 0 where
@@ -126,6 +133,9 @@ note-after e y = record { notes = notes-after e (y .notes); within = y .within }
 pub note-head : {tr : List ℕ} {z : Sizes} {s : ℕ} → NoteOf tr z s → headWords ≤ length tr
 note-head y = notes-head (y .notes)
 
+pub note-index : {tr : List ℕ} {z : Sizes} {s : ℕ} → NoteOf tr z s → InIndex z s
+note-index y = record { sizes = record { slots-hi = y .notes .slots-hi; threads-hi = y .notes .threads-hi }; within = y .within }
+
 pub note-slot : {tr : List ℕ} {z : Sizes} {s : ℕ} → NoteOf tr z s → s < 2 ^ 32
 note-slot y = omega (arith, y .within, y .notes .slots-hi)
 
@@ -162,4 +172,4 @@ entered-front y = omega (arith, y .shaped .working .long)
 pub with-entered : {wk l tr : List ℕ} {z : Sizes} → EnteredWith wk l tr z → Entered wk tr z
 with-entered y = y .entered
 
-pub ruleset requires-laws = (notes-after, notes-head, note-of, note-after, note-head, note-slot, thread-of, shaped-slot, shaped-notes, slot-note, slot-working, slot-head, entered-shaped, entered-notes, entered-head, entered-front, with-entered)
+pub ruleset requires-laws = (notes-after, notes-head, note-of, note-after, note-head, note-index, note-slot, thread-of, shaped-slot, shaped-notes, slot-note, slot-working, slot-head, entered-shaped, entered-notes, entered-head, entered-front, with-entered)

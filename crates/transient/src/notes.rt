@@ -2,13 +2,13 @@
 use crate::sizes::Sizes;
 ghost use mathlib.Core.Path.{_≡_};
 ghost use Prim.Native.Nat.{_+_, _≤_, _<_};
-ghost use lib.ListN.{length, replicate};
+ghost use lib.ListN.{length};
 ghost use Rattle.image.specs.Layout.{mostSlots};
-ghost use Rattle.image.specs.Line.{stored};
-ghost use Rattle.transient.specs.Layout.{headWords, transientWords, threadsOf, threadsOk, blank, note, slotsAt, lastAt, nextUidAt, nextOrderAt, phaseAt, placeAt, openEpoch, retiredIn, isWaiting, setNote, setOpen, setRetired, setWaiting, setPlace, emptied, bucketAt, linkAt};
-ghost use Rattle.transient.specs.Requires.{Based, InReach, InIndex, ThreadRoom, Blanking, Notes, NoteOf, ThreadOf};
+ghost use Rattle.transient.specs.Layout.{headWords, transientWords, threadsOf, threadsOk, blank, note, slotsAt, lastAt, nextUidAt, nextOrderAt, phaseAt, placeAt, openEpoch, retiredIn, setNote, setOpen, setRetired, setPlace, bucketAt, linkAt};
+ghost use Rattle.transient.specs.Requires.{InReach, InIndex, ThreadRoom, Blanking, NoteOf, ThreadOf};
 
-// Where the words of the head stand, and how many these are; then come the threads, the slots, and the index.
+// Where the words of the head stand, the waiting lists at its end, and how many these are; then come the threads, the
+// slots, and the index.
 const SLOTS: usize = 0;
 
 const LAST: usize = 1;
@@ -21,14 +21,16 @@ const PHASE: usize = 4;
 
 const PLACE: usize = 5;
 
-pub const HEAD: usize = 6;
+pub const LISTS: usize = 6;
+
+pub const HEAD: usize = 70;
 
 // Does a slice of this length hold the notes of 1 to 16 threads, for `n` slots?
 pub fn threads_ok(len: usize, n: usize) -> bool
     requires { ⌜ n ≤ mostSlots ⌝ }
     ensures { λ r. ⌜ r ≡ threadsOk len n ⌝ }
 {
-    let least = HEAD + 5 * n + 1;
+    let least = HEAD + 3 * n + 1;
     std::num::wrapping_sub_usize(len, least) < 16
 }
 
@@ -37,7 +39,7 @@ pub fn transient_words(n: usize, t: usize) -> usize
     requires { ⌜ InReach n t ⌝ }
     ensures { λ r. ⌜ r ≡ transientWords n t ⌝ }
 {
-    HEAD + t + 5 * n
+    HEAD + t + 3 * n
 }
 
 // How many threads a slice of this length has, for `n` slots.
@@ -45,7 +47,7 @@ pub fn threads(len: usize, n: usize) -> usize
     requires { ⌜ ThreadRoom len n ⌝ }
     ensures { λ r. ⌜ r ≡ threadsOf len n ⌝ }
 {
-    len - (HEAD + 5 * n)
+    len - (HEAD + 3 * n)
 }
 
 // For n slots, with nothing open, retired, waiting or underway.
@@ -152,29 +154,6 @@ pub fn set_retired(transient: &mut [u32], z: Sizes, s: usize, e: u32)
     transient[HEAD + z.t + s] = e;
 }
 
-// Where the flags of e's waiting list begin, behind those of the even epochs.
-fn list_base(n: usize, e: u32) -> usize
-    ensures { λ r. ⌜ Based n e r ⌝ }
-{
-    if e % 2 == 0 { 0 } else { n }
-}
-
-pub fn set_waiting(transient: &mut [u32], z: Sizes, e: u32, s: usize)
-    requires { ⌜ NoteOf (now transient) z s ⌝ }
-    ensures { λ _. ⌜ now (transient .exit) ≡ setWaiting z (now (transient .entry)) e s ⌝ }
-{
-    let b = list_base(z.n, e);
-    transient[HEAD + z.t + z.n + b + s] = 1;
-}
-
-pub fn is_waiting(transient: &[u32], z: Sizes, e: u32, s: usize) -> bool
-    requires { ⌜ NoteOf (now transient) z s ⌝ }
-    ensures { λ r. ⌜ r ≡ isWaiting z (now (transient .entry)) e s ⌝ }
-{
-    let b = list_base(z.n, e);
-    transient[HEAD + z.t + z.n + b + s] != 0
-}
-
 pub fn set_place(transient: &mut [u32], phase: u32, slot: u32)
     requires { ⌜ headWords ≤ length (now transient) ⌝ }
     ensures { λ _. ⌜ now (transient .exit) ≡ setPlace (now (transient .entry)) phase slot ⌝ }
@@ -188,7 +167,7 @@ pub fn bucket_at(z: Sizes, b: usize) -> usize
     requires { ⌜ InIndex z b ⌝ }
     ensures { λ r. ⌜ r ≡ bucketAt z b ⌝ }
 {
-    HEAD + z.t + 3 * z.n + b
+    HEAD + z.t + z.n + b
 }
 
 // Where it has slot s's link to the next one.
@@ -196,26 +175,5 @@ pub fn link_at(z: Sizes, s: usize) -> usize
     requires { ⌜ InIndex z s ⌝ }
     ensures { λ r. ⌜ r ≡ linkAt z s ⌝ }
 {
-    HEAD + z.t + 4 * z.n + s
-}
-
-// The `k` words from `b` on become 0.
-fn clear_words(l: &mut [u32], b: usize, k: usize)
-    requires { ⌜ b + k ≤ length (now l) ⌝ }
-    ensures { λ _. ⌜ now (l .exit) ≡ stored (now (l .entry)) b (replicate k 0) k ⌝ }
-{
-    let mut j = 0;
-    while j < k {
-        l[b + j] = 0;
-        j += 1;
-    }
-}
-
-// Nothing waits in e's list.
-pub fn empty_list(transient: &mut [u32], z: Sizes, e: u32)
-    requires { ⌜ Notes (now transient) z ⌝ }
-    ensures { λ _. ⌜ now (transient .exit) ≡ emptied z (now (transient .entry)) e ⌝ }
-{
-    let b = list_base(z.n, e);
-    clear_words(transient, HEAD + z.t + z.n + b, z.n);
+    HEAD + z.t + 2 * z.n + s
 }
