@@ -12,6 +12,7 @@ use Rattle.search.specs.Bools.{cases}
 use Rattle.search.specs.declared.Found.{Found}
 use Rattle.search.specs.declared.Found.the-variants.{At, Nothing}
 use Rattle.search.specs.First.{whereFound}
+use Rattle.search.specs.From.{Between}
 use Rattle.reply.specs.declared.Refusal.{Refusal}
 use Rattle.image.specs.Layout.{slotsOf, clockOf, freeHeader}
 use Rattle.image.specs.Laws.{front-past-header, word-past-clock}
@@ -27,7 +28,7 @@ use Rattle.step.specs.declared.Advance.{Advance}
 use Rattle.step.specs.declared.Advance.the-variants.{WentOn, Ticked, Declined}
 use Rattle.step.specs.Step.{idle, reclaimNext, contentsNext, headerNext, clockNext, Stepped, place, passing, reclaimed, contentsFlushed, headerFlushed, ticking, flushFrom, reclaimFrom, step}
 use Rattle.step.specs.Stages.{dueFrom, waitingFrom}
-use Rattle.step.specs.From.{Between, due-between, waiting-between}
+use Rattle.step.specs.From.{due-between, waiting-between}
 use Rattle.advance.specs.Advance.{noted, advance}
 use Rattle.advance.specs.Stages.{mostLines, notedPlace}
 use Rattle.advance.specs.Ways.{nextStep, advance-way}

@@ -17,7 +17,7 @@ use Rattle.image.specs.Laws.{length-contents}
 use Rattle.transient.specs.declared.sizes.Sizes.{Sizes}
 use Rattle.transient.specs.Layout.{retiredIn, isWaiting}
 use Rattle.transient.specs.Store.{Store, store}
-use Rattle.transient.specs.Laws.{waiting-again}
+use Rattle.transient.specs.Lists.{waiting-again}
 use Rattle.step.specs.Step.{ticking, headerNext, contentsNext, clockNext, contentsFlushed, headerFlushed, flushFrom, passing}
 use Rattle.step.specs.Stages.{waitingFrom}
 use Rattle.crash.specs.Table.{Put}
@@ -87,14 +87,14 @@ module _ {sz : Sizes} {start : Jobs} {st : Store} {p : Plain} (y : Ready sz star
   tr = st .transient
 
   abbrev waits : ℕ → ℕ → Bool
-  waits q m = leb q m && isWaiting sz tr (c - 1) m
+  waits q m = leb q m && isWaiting tr (c - 1) m
 
   -- a slot that is passed does not wait
   quiet : (q m : ℕ) → q ≤ m → waits q m ≡ false → m < sz .n → view st sz c m .before ≡ 0
   quiet q m a f h =
       let z : c - 1 + 2 ≡ c + 1 = omega (arith, y .good .inv .clock-lo) in
-      let off : isWaiting sz tr (c - 1) m ≡ false = refuted _ (λ e. never _ (and-both (le-leb q m a) e) f) in
-      rw (view-in st sz c m h, ← z, waiting-again sz tr (c - 1) m) (flag-off off)
+      let off : isWaiting tr (c - 1) m ≡ false = refuted _ (λ e. never _ (and-both (le-leb q m a) e) f) in
+      rw (view-in st sz c m h, ← z, waiting-again tr (c - 1) m) (flag-off off)
 
   -- the contents of the next slot that waits, or the clock
   pub flush-good : (q : ℕ) → Reached sz start st p (flushedTo (sz .n) q) → Owed sz start p (flushFrom sz st c q)

@@ -16,7 +16,8 @@ use Rattle.transient.specs.declared.sizes.Sizes.{Sizes}
 use Rattle.transient.specs.Store.{Store, store}
 use Rattle.transient.specs.Layout.{note, nextUidAt, nextOrderAt, phaseAt, placeAt, openEpoch, isWaiting}
 use Rattle.transient.specs.Requires.{Shaped, notes-after}
-use Rattle.transient.specs.Laws.{HeadKept, waiting-again}
+use Rattle.transient.specs.Laws.{HeadKept}
+use Rattle.transient.specs.Lists.{waiting-again}
 use Rattle.step.specs.Step.{reclaimNext, contentsNext, headerNext, clockNext}
 use Rattle.index.specs.Indexed.{Indexed}
 use Rattle.advance.specs.Stages.{underway}
@@ -96,10 +97,10 @@ module _ {sz : Sizes} {start : Jobs} {st : Store} {p : Plain} (g : Good sz start
   -- ---- the slot that is written
   module _ {wk′ tr′ : List ℕ} {e s r u x : ℕ} {h : Header} {line : List ℕ} (a : Wrote (st .working) wk′ sz s h line) (j : Joined sz (st .transient) tr′ e s r u x) (k : s < sz .n) where
     abbrev now : ℕ
-    now = flag (isWaiting sz tr′ (p .clock) s)
+    now = flag (isWaiting tr′ (p .clock) s)
 
     abbrev before : ℕ
-    before = flag (isWaiting sz tr′ (p .clock + 1) s)
+    before = flag (isWaiting tr′ (p .clock + 1) s)
 
     here : slotOf (store wk′ (st .persistent) tr′) sz (p .clock) s
         ≡ record { working = entryOf h line; persistent = view st sz (p .clock) s .persistent; retired = r; now = now; before = before }
@@ -117,14 +118,14 @@ module _ {sz : Sizes} {start : Jobs} {st : Store} {p : Plain} (g : Good sz start
     change-joins =
         rw (view-in st sz (p .clock) s k)
         record {
-          now-kept = flag-up (isWaiting sz (st .transient) (p .clock) s) (isWaiting sz tr′ (p .clock) s) (j .stays (p .clock));
-          before-kept = flag-up (isWaiting sz (st .transient) (p .clock + 1) s) (isWaiting sz tr′ (p .clock + 1) s) (j .stays (p .clock + 1));
+          now-kept = flag-up (isWaiting (st .transient) (p .clock) s) (isWaiting tr′ (p .clock) s) (j .stays (p .clock));
+          before-kept = flag-up (isWaiting (st .transient) (p .clock + 1) s) (isWaiting tr′ (p .clock + 1) s) (j .stays (p .clock + 1));
           joins-now = λ q. flag-on (rw q at (j .joins));
-          joins-before = λ q. let y : isWaiting sz tr′ (p .clock + 1) s ≡ true = rw (← q) (waiting-later q) in flag-on y;
+          joins-before = λ q. let y : isWaiting tr′ (p .clock + 1) s ≡ true = rw (← q) (waiting-later q) in flag-on y;
         }
       where
-        waiting-later : e + 1 ≡ p .clock → isWaiting sz tr′ (e + 1 + 1) s ≡ true
-        waiting-later q = let z : e + 1 + 1 ≡ e + 2 = omega arith in rw z (waiting-again sz tr′ e s ∙ j .joins)
+        waiting-later : e + 1 ≡ p .clock → isWaiting tr′ (e + 1 + 1) s ≡ true
+        waiting-later q = let z : e + 1 + 1 ≡ e + 2 = omega arith in rw z (waiting-again tr′ e s ∙ j .joins)
 
   -- ---- all else
   -- the reference map with another row

@@ -50,9 +50,9 @@ later-filled h a b c f = let w = filled-says h f .whole in made-filled a b c (w 
 pub kept-indexed : {wk tr tr′ : List ℕ} {sz : Sizes} → IndexKept sz tr tr′ → Indexed sz wk tr → Indexed sz wk tr′
 kept-indexed x i = indexed-same x (λ m h. refl) (λ m h. refl) i
 
-joined-index : (sz : Sizes) (tr : List ℕ) (e s : ℕ) → s < sz .n → IndexKept sz tr (joined sz tr e s)
+joined-index : {tr : List ℕ} {sz : Sizes} → Notes tr sz → (e s : ℕ) → s < sz .n → IndexKept sz tr (joined sz tr e s)
 unfolding joined
-joined-index sz tr e s k = index-then (retired-index tr sz s 0 k) (waiting-index (setRetired sz tr s 0) sz e s k)
+joined-index {tr} {sz} y e s k = index-then (retired-index tr sz s 0 k) (waiting-index (notes-after (retired-front tr sz s 0 .head .long) y) e s k)
 
 -- ---- a slot is written
 module _ {wk wk′ : List ℕ} {sz : Sizes} {s : ℕ} {h : Header} {words : List ℕ} (a : Wrote wk wk′ sz s h words) (w : 1 ≤ sz .w) where
@@ -86,7 +86,7 @@ module _ {wk wk′ : List ℕ} {sz : Sizes} {s : ℕ} {h : Header} {words : List
           let tr₁ = setNote lastAt tr s in
           let y₁ : Notes tr₁ sz = notes-after (last-head tr sz s .long) y in
           indexed-inserted (notes-after (joined-joins y₁ e s k .head .long) y₁) k
-          (kept-indexed (index-then (last-index tr sz s) (joined-index sz tr₁ e s k)) i)
+          (kept-indexed (index-then (last-index tr sz s) (joined-index y₁ e s k)) i)
           f (ap isFilled (a .header-here) ∙ g) wrote-name wrote-others
 
       module _ (name : Name) (f : isFilled (header wk s) ≡ true) (q : nameAt wk (sz .n) (sz .w) s ≡ name) (g : isFilled h ≡ false) where
@@ -94,7 +94,7 @@ module _ {wk wk′ : List ℕ} {sz : Sizes} {s : ℕ} {h : Header} {words : List
         freed-indexed : (e : ℕ) → Indexed sz wk′ (freed sz tr e s name)
         unfolding freed
         freed-indexed e =
-            indexed-removed (notes-after (joined-joins y e s k .head .long) y) k (kept-indexed (joined-index sz tr e s k) i)
+            indexed-removed (notes-after (joined-joins y e s k .head .long) y) k (kept-indexed (joined-index y e s k) i)
             f q (ap isFilled (a .header-here) ∙ g) wrote-others
 
         -- or by an advance
@@ -123,7 +123,7 @@ module _ {wk tr : List ℕ} {z : Sizes} (y : Shaped wk tr z) (i : Indexed z wk t
     pub rewritten-stays : (value : List ℕ) → length value + 1 ≡ z .w → Stays z (rewritten z (table wk tr) e s value)
     unfolding rewritten
     rewritten-stays value long =
-        same-indexed (value-wrote {sz = z} (y .working) below value long) wide below i refl (sym (name-is wk (z .n) (z .w) s)) (waiting-index tr z e s below)
+        same-indexed (value-wrote {sz = z} (y .working) below value long) wide below i refl (sym (name-is wk (z .n) (z .w) s)) (waiting-index (y .notes) e s below)
 
     pub turned-stays : e ≢ 0 → Stays z (turned z (table wk tr) e s)
     unfolding turned
@@ -131,7 +131,7 @@ module _ {wk tr : List ℕ} {z : Sizes} (y : Shaped wk tr z) (i : Indexed z wk t
         let h = antiHeader e (header wk s) in
         let full : isFilled h ≡ true = later-filled (header wk s) (omega arith) (omega arith) (omega arith) (c .filled) in
         same-indexed (header-wrote (y .working) below h) wide below i (full ∙ sym (c .filled))
-        (sym (name-contents wk (z .n) (z .w) s wide)) (waiting-index tr z e s below)
+        (sym (name-contents wk (z .n) (z .w) s wide)) (waiting-index (y .notes) e s below)
 
     pub freed-stays : Stays z (freedAt z (table wk tr) e s (name .key))
     unfolding freedAt

@@ -17,22 +17,22 @@ pub record Joined (sz : Sizes) (tr tr′ : List ℕ) (e s r u x : ℕ) : Type 0 
   pub head : HeadKept sz tr tr′
   pub others : (m : ℕ) → m < sz .n → m ≢ s → SlotKept sz tr tr′ m
   pub retired : retiredIn sz tr′ s ≡ r
-  pub joins : isWaiting sz tr′ e s ≡ true
-  pub stays : (d : ℕ) → isWaiting sz tr d s ≡ true → isWaiting sz tr′ d s ≡ true
+  pub joins : isWaiting tr′ e s ≡ true
+  pub stays : (d : ℕ) → isWaiting tr d s ≡ true → isWaiting tr′ d s ≡ true
   pub uid : note nextUidAt tr′ ≡ u
   pub order : note nextOrderAt tr′ ≡ x
 
 module _ {tr : List ℕ} {sz : Sizes} (y : Notes tr sz) (e s : ℕ) (h : s < sz .n) where
-  pub waiting-joins : Joined sz tr (setWaiting sz tr e s) e s (retiredIn sz tr s) (note nextUidAt tr) (note nextOrderAt tr)
+  pub waiting-joins : Joined sz tr (setWaiting tr e s) e s (retiredIn sz tr s) (note nextUidAt tr) (note nextOrderAt tr)
   waiting-joins =
       record {
-        head = waiting-front tr sz e s .head;
-        others = λ m k d. waiting-aside y e s m h k d;
-        retired = waiting-retired y e s s h;
+        head = waiting-front y e s h .head;
+        others = λ m k d. waiting-aside y e s h m k d;
+        retired = waiting-retired y e s h s h;
         joins = waiting-joined y e s h;
-        stays = λ d q. waiting-stays y e s d h q;
-        uid = waiting-front tr sz e s .uid;
-        order = waiting-front tr sz e s .order;
+        stays = λ d q. waiting-stays y e s h d q;
+        uid = waiting-front y e s h .uid;
+        order = waiting-front y e s h .order;
       }
 
   pub joined-joins : Joined sz tr (joined sz tr e s) e s 0 (note nextUidAt tr) (note nextOrderAt tr)
@@ -42,13 +42,13 @@ module _ {tr : List ℕ} {sz : Sizes} (y : Notes tr sz) (e s : ℕ) (h : s < sz 
       let a = retired-front tr sz s 0 .head in
       let y′ : Notes tr′ sz = notes-after (a .long) y in
       record {
-        head = head-then a (waiting-front tr′ sz e s .head);
-        others = λ m k d. slot-then (retired-aside y s 0 m h d) (waiting-aside y′ e s m h k d);
-        retired = waiting-retired y′ e s s h ∙ retired-same y s 0 h;
+        head = head-then a (waiting-front y′ e s h .head);
+        others = λ m k d. slot-then (retired-aside y s 0 m k d) (waiting-aside y′ e s h m k d);
+        retired = waiting-retired y′ e s h s h ∙ retired-same y s 0 h;
         joins = waiting-joined y′ e s h;
-        stays = λ d q. waiting-stays y′ e s d h (retired-waiting y s 0 d s h ∙ q);
-        uid = waiting-front tr′ sz e s .uid ∙ retired-front tr sz s 0 .uid;
-        order = waiting-front tr′ sz e s .order ∙ retired-front tr sz s 0 .order;
+        stays = λ d q. waiting-stays y′ e s h d (retired-waiting y s 0 d s h ∙ q);
+        uid = waiting-front y′ e s h .uid ∙ retired-front tr sz s 0 .uid;
+        order = waiting-front y′ e s h .order ∙ retired-front tr sz s 0 .order;
       }
 
 -- .. and what changes besides is the index alone

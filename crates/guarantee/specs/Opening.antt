@@ -40,7 +40,7 @@ module _ {sz : Sizes} {start : Jobs} {wk l tr : List ℕ} {p : Plain} (thread e 
   view-is : view (store wk l tr′) sz (p .clock) ≡ view (store wk l tr) sz (p .clock)
   view-is =
       fun-ext (λ m. same-view (store wk l tr) (store wk l tr′) sz (p .clock) m
-      (λ h. let o = open-slots tr sz thread e within m in rw (o .retired, o .waiting (p .clock), o .waiting (p .clock + 1))))
+      (λ h. let o = open-slots tr sz thread e within m (omega (arith, g .notes .slots-hi)) in rw (o .retired, o .waiting (p .clock), o .waiting (p .clock + 1))))
 
   -- what holds of this thread and of the others holds of all
   each : (P : ℕ → ℕ → ℕ → Type 0) → P thread e e → ((u : ℕ) → u < sz .t → u ≢ thread → P u (openEpoch tr u) (p .operation u))

@@ -94,7 +94,7 @@ pub record Noted (sz : Sizes) (tr tr′ : List ℕ) (s r : ℕ) : Type 0 where
   pub uid : note nextUidAt tr′ ≡ note nextUidAt tr
   pub order : note nextOrderAt tr′ ≡ note nextOrderAt tr
   pub others : (m : ℕ) → m < sz .n → m ≢ s → SlotKept sz tr tr′ m
-  pub waiting : (d : ℕ) → isWaiting sz tr′ d s ≡ isWaiting sz tr d s
+  pub waiting : (d : ℕ) → isWaiting tr′ d s ≡ isWaiting tr d s
   pub retired : retiredIn sz tr′ s ≡ r
 
 pub noted-place : (sz : Sizes) (tr : List ℕ) (s phase slot : ℕ) → Noted sz tr (setPlace tr phase slot) s (retiredIn sz tr s)
@@ -124,7 +124,7 @@ noted-cleared {tr} {sz} y s phase slot name h =
       opens = λ u k. z .opens u k ∙ front .head .opens u k ∙ a .head .opens u k;
       uid = z .uid ∙ front .uid ∙ a .uid;
       order = z .order ∙ front .order ∙ a .order;
-      others = λ m k d. slot-then (slot-then (retired-aside y s 0 m h d) (kept m k)) (z .others m k d);
+      others = λ m k d. slot-then (slot-then (retired-aside y s 0 m k d) (kept m k)) (z .others m k d);
       waiting = λ d. z .waiting d ∙ kept s h .waiting d ∙ retired-waiting y s 0 d s h;
       retired = z .retired ∙ kept s h .retired ∙ retired-same y s 0 h;
     }
@@ -137,8 +137,8 @@ module _ (st st′ : Store) (sz : Sizes) (c s r : ℕ) {h h′ : Header} {words 
     working = entryOf h words;
     persistent = entryOf h′ words′;
     retired = r;
-    now = flag (isWaiting sz (st .transient) c s);
-    before = flag (isWaiting sz (st .transient) (c + 1) s);
+    now = flag (isWaiting (st .transient) c s);
+    before = flag (isWaiting (st .transient) (c + 1) s);
   })
   step-put =
       view-put st st′ sz c s _ k

@@ -50,9 +50,9 @@ module _ {sz : Sizes} {start : Jobs} {st : Store} {p : Plain} (g : Good sz start
   notes′ : Notes tr′ sz
   notes′ = notes-after (j .head .long) (g .notes)
 
-  first : slotOf nd sz c f ≡ record { working = entryOf h words; persistent = view st sz c f .persistent; retired = 0; now = flag (isWaiting sz tr′ c f); before = flag (isWaiting sz tr′ (c + 1) f) }
+  first : slotOf nd sz c f ≡ record { working = entryOf h words; persistent = view st sz c f .persistent; retired = 0; now = flag (isWaiting tr′ c f); before = flag (isWaiting tr′ (c + 1) f) }
   first =
-      let o = retired-aside notes′ s e f i apart in
+      let o = retired-aside notes′ s e f k apart in
       rw (view-in st sz c f k, a .header-here, a .line-here, o .retired, j .retired, o .waiting c, o .waiting (c + 1))
 
   second : slotOf nd sz c s ≡ retiring e (view st sz c s)
@@ -72,7 +72,7 @@ module _ {sz : Sizes} {start : Jobs} {st : Store} {p : Plain} (g : Good sz start
 
   rest : (m : ℕ) → m < sz .n → m ≢ f → m ≢ s → slotOf nd sz c m ≡ slotOf st sz c m
   rest m b d q =
-      let x = retired-aside notes′ s e m i q in
+      let x = retired-aside notes′ s e m b q in
       let o = j .others m b d in
       rw (
         a .header-there m b d,
@@ -86,7 +86,7 @@ module _ {sz : Sizes} {start : Jobs} {st : Store} {p : Plain} (g : Good sz start
       )
 
   pub over-put : Put2 (view st sz c) (view nd sz c) f
-      (record { working = entryOf h words; persistent = view st sz c f .persistent; retired = 0; now = flag (isWaiting sz tr′ c f); before = flag (isWaiting sz tr′ (c + 1) f) })
+      (record { working = entryOf h words; persistent = view st sz c f .persistent; retired = 0; now = flag (isWaiting tr′ c f); before = flag (isWaiting tr′ (c + 1) f) })
       s (retiring e (view st sz c s))
   over-put = view-put2 st nd sz c f s _ _ k i apart first second rest
 

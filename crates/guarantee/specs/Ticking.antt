@@ -14,7 +14,8 @@ use Rattle.transient.specs.Layout.{note, nextUidAt, nextOrderAt, openEpoch, ret
 use Rattle.transient.specs.Store.{Store, store}
 use Rattle.transient.specs.Requires.{Notes, notes-after}
 use Rattle.index.specs.Indexed.{Indexed, indexed-same}
-use Rattle.transient.specs.Laws.{SlotKept, waiting-again, place-long, place-opens, place-slots, place-index, place-uid, place-order, index-then, emptied-front, emptied-index, emptied-none, emptied-next, emptied-retired, phase-set, slot-set}
+use Rattle.transient.specs.Laws.{SlotKept, place-long, place-opens, place-slots, place-index, place-uid, place-order, index-then, emptied-front, emptied-index, emptied-none, emptied-next, emptied-retired, phase-set, slot-set}
+use Rattle.transient.specs.Lists.{waiting-again}
 use Rattle.step.specs.Step.{Stepped, idle, ticking}
 use Rattle.advance.specs.Advance.{noted}
 use Rattle.advance.specs.Stages.{underway}
@@ -52,7 +53,7 @@ module _ {sz : Sizes} {start : Jobs} {st : Store} {p : Plain} (y : Ready sz star
   c = p .clock
 
   abbrev list : List ℕ
-  list = emptied sz (st .transient) (c - 1)
+  list = emptied (st .transient) (c - 1)
 
   abbrev notes′ : List ℕ
   notes′ = setPlace list idle 0
@@ -65,17 +66,17 @@ module _ {sz : Sizes} {start : Jobs} {st : Store} {p : Plain} (y : Ready sz star
   placed = place-slots list sz idle 0
 
   -- the list of the next clock is empty
-  now-empty : (s : ℕ) → s < sz .n → isWaiting sz notes′ (suc c) s ≡ false
+  now-empty : (s : ℕ) → s < sz .n → isWaiting notes′ (suc c) s ≡ false
   now-empty s h =
       let z : c - 1 + 2 ≡ suc c = omega (arith, y .good .inv .clock-lo) in
-      rw (← z) (waiting-again sz notes′ (c - 1) s ∙ placed s .waiting (c - 1) ∙ emptied-none (y .good .notes) (c - 1) s h)
+      rw (← z) (waiting-again notes′ (c - 1) s ∙ placed s .waiting (c - 1) ∙ emptied-none (y .good .notes) (c - 1) s h)
 
   -- the list of c stays
-  before-kept : (s : ℕ) → s < sz .n → isWaiting sz notes′ (suc c + 1) s ≡ isWaiting sz (st .transient) c s
+  before-kept : (s : ℕ) → s < sz .n → isWaiting notes′ (suc c + 1) s ≡ isWaiting (st .transient) c s
   before-kept s h =
       let z : suc c + 1 ≡ c + 2 = omega arith in
       let d : c - 1 + 1 ≡ c = omega (arith, y .good .inv .clock-lo) in
-      rw z (waiting-again sz notes′ c s ∙ placed s .waiting c ∙ rw d at (emptied-next (y .good .notes) (c - 1) s h))
+      rw z (waiting-again notes′ c s ∙ placed s .waiting c ∙ rw d at (emptied-next (y .good .notes) (c - 1) s h))
 
   retired-kept : (s : ℕ) → s < sz .n → retiredIn sz notes′ s ≡ retiredIn sz (st .transient) s
   retired-kept s h = placed s .retired ∙ emptied-retired (y .good .notes) (c - 1) s h

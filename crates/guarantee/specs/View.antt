@@ -32,8 +32,8 @@ slotOf st sz c s =
       working = entryOf (header (st .working) s) (contents (st .working) (sz .n) (sz .w) s);
       persistent = entryOf (header (st .persistent) s) (contents (st .persistent) (sz .n) (sz .w) s);
       retired = retiredIn sz (st .transient) s;
-      now = flag (isWaiting sz (st .transient) c s);
-      before = flag (isWaiting sz (st .transient) (c + 1) s);
+      now = flag (isWaiting (st .transient) c s);
+      before = flag (isWaiting (st .transient) (c + 1) s);
     }
 
 abbrev pub noSlot : Slot

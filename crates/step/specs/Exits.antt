@@ -1,7 +1,7 @@
--- The ways out of a step: what is due, what waits, the lines, and the step by its phase.
+-- The ways out of a step: the lines, and the step by its phase.
 use Prim.Native.Nat.{ℕ, _+_, _-_, _≤_, _<_}
-use mathlib.Core.Path.{_≡_, refl, sym, _∙_}
-use mathlib.Core.Bool.{Bool, true, false, not, _&&_}
+use mathlib.Core.Path.{_≡_, sym, _∙_}
+use mathlib.Core.Bool.{true, false, not}
 use mathlib.Core.Logic.{⊎-elim}
 use mathlib.Core.List.{List}
 use lib.Dec.{eqb}
@@ -9,102 +9,34 @@ use borrow.Author.Tests.{lt-ltb, le-ltb, eq-eqb, ne-eqb}
 use native.Mathlib.Omega.{arith}
 use native.Mathlib.Decide.{ℕ-discrete}
 use Rattle.search.specs.Bools.{cases}
+use Rattle.search.specs.From.{firstFrom, found-between}
 use Rattle.search.specs.declared.Found.{Found}
 use Rattle.search.specs.declared.Found.the-variants.{At, Nothing}
 use Rattle.image.specs.declared.header.Header.{Header}
-use Rattle.image.specs.Layout.{mostSlots, hasZero, isPayload, header, freeHeader}
+use Rattle.image.specs.Layout.{header, freeHeader}
 use Rattle.image.specs.Line.{headerLine, clockLine, storeLine}
 use Rattle.image.specs.declared.name.Name.{Name}
 use Rattle.image.specs.Name.{nameAt}
 use Rattle.image.specs.Requires.{heldHeader, heldContents, Slots, slot}
 use Rattle.transient.specs.declared.sizes.Sizes.{Sizes}
-use Rattle.transient.specs.Layout.{retiredIn, isWaiting, setRetired, emptied}
+use Rattle.transient.specs.Layout.{isWaiting, setRetired, emptied}
 use Rattle.transient.specs.Store.{Table, store, table}
-use Rattle.transient.specs.Requires.{NoteOf, ShapedSlot, note-after, slot-note, slot-working, slot-head}
+use Rattle.transient.specs.Requires.{NoteOf, note-after, slot-working}
 use Rattle.transient.specs.Laws.{retired-front}
 use Rattle.index.specs.Index.{removed}
 use Rattle.step.specs.declared.Place.{Place}
 use Rattle.step.specs.declared.Advance.the-variants.{WentOn, Ticked}
 use Rattle.step.specs.Step.{idle, reclaimNext, contentsNext, headerNext, clockNext, Stepped, stepped, place, passing, due, reclaimed, contentsFlushed, headerFlushed, ticking, flushFrom, reclaimFrom, step}
-use Rattle.step.specs.Stages.{dueFrom, dueNext, reclaimOrFlush, waitingFrom}
-use Rattle.step.specs.Requires.{retiredDue, payloadDue, antiDue, Freed, slotIn, Waiting, Going, slots-first, slots-second, waiting-note, going-advancing, going-shaped, requires-laws}
-use Rattle.step.specs.From.{From, from-start, froms, pairs, due-is, due-between, waiting-is, waiting-between}
-
--- ---- what is due
-pub retired-none : (r c : ℕ) → r ≡ 0 → false ≡ retiredDue r c
-unfolding retiredDue
-retired-none r c h = rw (eq-eqb r 0 h)
-
-pub retired-due : (r c : ℕ) {a b : ℕ} → (r ≡ 0 → ⊥) → a ≡ r → b ≡ c → eqb (a + 2) b ≡ retiredDue r c
-unfolding retiredDue
-retired-due r c h p q = rw (ne-eqb r 0 h, p, q)
-
-and-none : (a : Bool) → false ≡ a && false
-and-none true = refl
-and-none false = refl
-
-and-sure : (a : Bool) → a ≡ a && true
-and-sure true = refl
-and-sure false = refl
-
-module _ (z : Sizes) (wk tr : List ℕ) (c s : ℕ) where
-  module _ {r : ℕ} {d : Bool} (re : r ≡ retiredIn z tr s) (de : d ≡ retiredDue r c) where
-    pub payload-young : d ≡ false → false ≡ payloadDue z (table wk tr) c s
-    unfolding payloadDue
-    payload-young e = rw (← re, ← de, e) (and-none (isPayload (header wk s)))
-
-    pub payload-old : {h : Header} {p : Bool} → d ≡ true → h ≡ header wk s → p ≡ isPayload h → p ≡ payloadDue z (table wk tr) c s
-    unfolding payloadDue
-    payload-old {h} e at pe = rw (← re, ← de, e, ← at, ← and-sure (isPayload h)) pe
-
-  module _ {q : Bool} (qe : q ≡ payloadDue z (table wk tr) c s) where
-    pub due-payload : q ≡ true → true ≡ due z (table wk tr) c s
-    unfolding due payloadDue retiredDue
-    due-payload e = rw (← qe, e)
-
-    pub due-anti : {a : Bool} → q ≡ false → a ≡ antiDue wk c s → a ≡ due z (table wk tr) c s
-    unfolding due payloadDue retiredDue antiDue
-    due-anti e a = rw (← qe, e) a
-
-  module _ {h : Header} (at : h ≡ header wk s) where
-    pub anti-other : (h .kind ≡ 3 → ⊥) → false ≡ antiDue wk c s
-    unfolding antiDue
-    anti-other k = rw (← at, ne-eqb (h .kind) 3 k) (and-none (not (hasZero h)))
-
-    module _ {o : Bool} (k : h .kind ≡ 3) (oe : o ≡ hasZero h) where
-      pub anti-zero : o ≡ true → false ≡ antiDue wk c s
-      unfolding antiDue
-      anti-zero e = rw (← at, ← oe, e)
-
-      pub anti-old : {a b : ℕ} → o ≡ false → a ≡ h .epoch → b ≡ c → eqb (a + 3) b ≡ antiDue wk c s
-      unfolding antiDue
-      anti-old e x y = rw (← at, ← oe, e, k, x, y)
-
-pub due-start : {wk tr : List ℕ} {z : Sizes} {p : ℕ} (c : ℕ) → ShapedSlot wk tr z p → From (due z (table wk tr) c) (z .n) p p
-due-start {wk} {tr} {z} {p} c y = from-start (due z (table wk tr) c) (z .n) p (y .slot .within)
-
-pub due-slot : {wk tr : List ℕ} {z : Sizes} {p s : ℕ} → ShapedSlot wk tr z p → s < z .n → ShapedSlot wk tr z s
-due-slot y h = record { slot = slot (y .slot .sized) h; notes = y .notes }
-
--- ---- what waits
-pub waiting-start : {tr : List ℕ} {z : Sizes} {c p : ℕ} → Waiting tr z c p → From (isWaiting z tr (c - 1)) (z .n) p p
-waiting-start {tr} {z} {c} {p} y = from-start (isWaiting z tr (c - 1)) (z .n) p (y .note .within)
-
-pub waiting-few : {tr : List ℕ} {z : Sizes} {c p : ℕ} → Waiting tr z c p → z .n ≤ mostSlots
-waiting-few y = y .note .notes .slots-hi
-
--- two slots below the last, and the last alone
-pub below-last : {n s : ℕ} → s < n - 1 → s + 1 < n
-below-last h = omega arith
-
-pub at-last : {n s : ℕ} → n - 1 ≤ s → n ≤ s + 1
-at-last h = omega arith
+use Rattle.step.specs.Stages.{dueFrom, dueNext, reclaimOrFlush}
+use Rattle.step.specs.Requires.{Looking, Going, Freed, slotIn, slots-first, slots-second, going-advancing, going-looking, requires-laws}
+use Rattle.step.specs.From.{due-between}
+use Rattle.step.specs.DueExits.{looking-at}
 
 -- ---- a slot found is one of the table
 module _ {wk l tr : List ℕ} {z : Sizes} {c p s : ℕ} {f : Found} (y : Going wk l tr z c p) where
-  pub going-wait : f ≡ waitingFrom z tr c p → f ≡ At s → Slots wk l (z .n) (z .w) s
+  pub going-wait : f ≡ firstFrom (isWaiting tr (c - 1)) (z .n) p → f ≡ At s → Slots wk l (z .n) (z .w) s
   going-wait e a =
-      let h = waiting-between z tr c p (sym e ∙ a) .below in
+      let h = found-between (isWaiting tr (c - 1)) (z .n) p (sym e ∙ a) .below in
       record { first = slot (y .advancing .shaped .working) h; second = slot (y .advancing .persistent) h }
 
 -- ---- lines
@@ -138,8 +70,8 @@ module _ (p : Place) where
       (λ (t : eqb (p .phase) phase ≡ false). let f = rw t at e in omega arith)
       (cases (eqb (p .phase) phase))
 
-  pub shaped-in : (phase : ℕ) {wk tr : List ℕ} {z : Sizes} {a : ℕ} → ShapedSlot wk tr z (p .slot) → a ≡ slotIn p phase → ShapedSlot wk tr z a
-  shaped-in phase y e = due-slot y (slot-within phase e (y .slot .within))
+  pub looking-in : (phase : ℕ) {wk tr : List ℕ} {z : Sizes} {c a : ℕ} → Looking wk tr z c (p .slot) → a ≡ slotIn p phase → Looking wk tr z c a
+  looking-in phase y e = looking-at y (slot-within phase e (y .slot .slot .within))
 
   pub going-in : (phase : ℕ) {wk l tr : List ℕ} {z : Sizes} {c a : ℕ} → Going wk l tr z c (p .slot) → a ≡ slotIn p phase → Going wk l tr z c a
   going-in phase y e = record { advancing = y .advancing; within = slot-within phase e (y .within) }
@@ -179,20 +111,20 @@ module _ (z : Sizes) (wk l tr : List ℕ) where
   unfolding headerFlushed
   header-done s e p = rw (e, p)
 
-  pub tick-done : (c : ℕ) {wk′ l′ tr′ : List ℕ} → wk′ ≡ storeLine wk (clockLine (c + 1)) → l′ ≡ storeLine l (clockLine (c + 1)) → tr′ ≡ emptied z tr (c - 1)
+  pub tick-done : (c : ℕ) {wk′ l′ tr′ : List ℕ} → wk′ ≡ storeLine wk (clockLine (c + 1)) → l′ ≡ storeLine l (clockLine (c + 1)) → tr′ ≡ emptied tr (c - 1)
       → stepped Ticked wk′ l′ tr′ (place idle 0) ≡ ticking z (store wk l tr) c
   unfolding ticking
   tick-done c a b d = rw (a, b, d)
 
   -- from a slot on
   module _ (c p : ℕ) {f : Found} where
-    pub flush-line : {s : ℕ} {l′ : List ℕ} → f ≡ waitingFrom z tr c p → f ≡ At s → l′ ≡ storeLine l (heldContents wk (z .n) (z .w) s)
+    pub flush-line : {s : ℕ} {l′ : List ℕ} → f ≡ firstFrom (isWaiting tr (c - 1)) (z .n) p → f ≡ At s → l′ ≡ storeLine l (heldContents wk (z .n) (z .w) s)
         → stepped WentOn wk l′ tr (place headerNext s) ≡ flushFrom z (store wk l tr) c p
-    unfolding flushFrom waitingFrom contentsFlushed
+    unfolding flushFrom firstFrom contentsFlushed
     flush-line fe a e = rw (← fe, a, e)
 
-    pub flush-tick : {x : Stepped} → f ≡ waitingFrom z tr c p → f ≡ Nothing → x ≡ ticking z (store wk l tr) c → x ≡ flushFrom z (store wk l tr) c p
-    unfolding flushFrom waitingFrom
+    pub flush-tick : {x : Stepped} → f ≡ firstFrom (isWaiting tr (c - 1)) (z .n) p → f ≡ Nothing → x ≡ ticking z (store wk l tr) c → x ≡ flushFrom z (store wk l tr) c p
+    unfolding flushFrom firstFrom
     flush-tick fe a e = rw (← fe, a) e
 
   -- by the phase
@@ -229,16 +161,12 @@ module _ (z : Sizes) (wk l tr : List ℕ) where
       unfolding reclaimOrFlush
       slot-flush n g e = rw (← fe, n, ← g) e
 
-pub ruleset dues = (froms, slot-note, slot-head, retired-none, retired-due, payload-young, payload-old, due-payload, due-anti, anti-other, anti-zero, anti-old, due-start, due-slot, due-is)
-
-pub ruleset waits = (pairs, waiting-start, waiting-few, waiting-note, waiting-is, below-last, at-last)
-
 pub ruleset lines = (slots-first, slots-second, freed-both, passing-on, passing-over)
 
 pub ruleset steps = (requires-laws, slot-working, retired-note, going-wait, reclaim-done, header-done, tick-done, flush-line, flush-tick)
 
-pub ruleset places = (slot-on, slot-first, shaped-in, due-over, due-on)
+pub ruleset places = (slot-on, slot-first, looking-in, due-over, due-on)
 
-pub ruleset slots = (going-shaped, going-in, going-due, slot-reclaim, slot-flush)
+pub ruleset slots = (going-looking, going-in, going-due, slot-reclaim, slot-flush)
 
 pub ruleset stepping = (going-advancing, step-header, step-tick, step-slot)

@@ -1,13 +1,14 @@
 -- What functions inside require: a store at a step of an advance, from a slot on.
-use Prim.Native.Nat.{ℕ, _+_, _≤_, _<_}
+use Prim.Native.Nat.{ℕ, _+_, _-_, _≤_, _<_}
 use mathlib.Core.Path.{_≡_}
 use mathlib.Core.Bool.{Bool, not, cond, _&&_}
 use mathlib.Core.List.{List}
 use lib.ListN.{length}
-use lib.Dec.{eqb}
+use lib.Dec.{leb, eqb}
 use mir.Val.{Fits}
 use mir.Syntax.{w32}
 use native.Mathlib.Omega.{arith}
+use Rattle.search.specs.Some.{anyOf}
 use Rattle.image.specs.Layout.{mostSlots, mostNumber, hasZero, isPayload, header, freeHeader}
 use Rattle.image.specs.Line.{headerLine, storeLine}
 use Rattle.image.specs.Requires.{Sized, Slots, HeaderFits, slot, slot-header}
@@ -17,10 +18,25 @@ use Rattle.transient.specs.Store.{Table}
 use Rattle.transient.specs.Requires.{Notes, NoteOf, Shaped, ShapedSlot, note-of, shaped-slot}
 use Rattle.step.specs.declared.Place.{Place}
 
--- from slot p on in the waiting list of c - 1
-pub record Waiting (tr : List ℕ) (z : Sizes) (c p : ℕ) : Type 0 where
-  pub note : NoteOf tr z p
-  pub clock : 1 ≤ c
+-- a slot from which on what is due is looked for
+pub record Looking (wk tr : List ℕ) (z : Sizes) (c p : ℕ) : Type 0 where
+  pub slot : ShapedSlot wk tr z p
+  pub clock : 2 ≤ c
+
+-- slots from p on, up to another
+pub record Among (wk tr : List ℕ) (z : Sizes) (p to : ℕ) : Type 0 where
+  pub shaped : Shaped wk tr z
+  pub some : p < to
+  pub top : to ≤ z .n
+
+-- sixteen slots from s on: their notes, and their headers
+pub record NoteGroup (tr : List ℕ) (z : Sizes) (s : ℕ) : Type 0 where
+  pub notes : Notes tr z
+  pub top : s + 16 ≤ z .n
+
+pub record HeaderGroup (wk : List ℕ) (z : Sizes) (s : ℕ) : Type 0 where
+  pub sized : Sized wk (z .n) (z .w)
+  pub top : s + 16 ≤ z .n
 
 -- both images and the notes of one size, and a clock that can go up
 pub record Advancing (wk l tr : List ℕ) (z : Sizes) (c : ℕ) : Type 0 where
@@ -40,9 +56,6 @@ slots-first y = slot-header (y .first)
 
 pub slots-second : {wk l : List ℕ} {n w s : ℕ} → Slots wk l n w s → HeaderFits l n s
 slots-second y = slot-header (y .second)
-
-pub waiting-note : {tr : List ℕ} {z : Sizes} {c p s : ℕ} → Waiting tr z c p → s < z .n → NoteOf tr z s
-waiting-note y h = note-of (y .note .notes) h
 
 module _ {wk l tr : List ℕ} {z : Sizes} {c : ℕ} where
   pub advancing-working : Advancing wk l tr z c → 3 ≤ length wk
@@ -70,8 +83,11 @@ module _ {wk l tr : List ℕ} {z : Sizes} {c : ℕ} where
     pub going-note : NoteOf tr z p
     going-note = note-of (y .advancing .shaped .notes) (y .within)
 
-    pub going-waiting : Waiting tr z c p
-    going-waiting = record { note = going-note; clock = omega (arith, y .advancing .clock-lo) }
+    pub going-looking : Looking wk tr z c p
+    going-looking = record { slot = going-shaped; clock = y .advancing .clock-lo }
+
+    pub going-clock : 1 ≤ c
+    going-clock = omega (arith, y .advancing .clock-lo)
 
     pub going-next : p < mostSlots
     going-next = omega (arith, y .within, y .advancing .shaped .notes .slots-hi)
@@ -91,6 +107,24 @@ payloadDue z tb c s = isPayload (header (tb .working) s) && retiredDue (retiredI
 unfoldable pub antiDue : List ℕ → ℕ → ℕ → Bool
 antiDue wk c s = not (hasZero (header wk s)) && (eqb (header wk s .kind) 3 && eqb (header wk s .epoch + 3) c)
 
+-- is the j-th slot from s on retired in e? is any of sixteen?
+unfoldable pub isRetired : Sizes → List ℕ → ℕ → ℕ → ℕ → Bool
+isRetired z tr e s j = eqb (retiredIn z tr (s + j)) e
+
+unfoldable pub anyRetired : Sizes → List ℕ → ℕ → ℕ → Bool
+anyRetired z tr e s = anyOf (isRetired z tr e s) 16
+
+-- .. a DELETE?
+unfoldable pub isDelete : List ℕ → ℕ → ℕ → Bool
+isDelete wk s j = eqb (header wk (s + j) .kind) 3
+
+unfoldable pub anyDelete : List ℕ → ℕ → Bool
+anyDelete wk s = anyOf (isDelete wk s) 16
+
+-- are sixteen left, of which none is?
+unfoldable pub groupStays : Sizes → Table → ℕ → ℕ → Bool
+groupStays z tb c s = leb (s + 16) (z .n) && (not (anyRetired z (tb .transient) (c - 2) s) && not (anyDelete (tb .working) s))
+
 -- a slot is free in both images
 pub record Freed (wk l : List ℕ) (s : ℕ) (wk′ l′ : List ℕ) : Type 0 where
   pub working : wk′ ≡ storeLine wk (headerLine s freeHeader)
@@ -100,4 +134,4 @@ pub record Freed (wk l : List ℕ) (s : ℕ) (wk′ l′ : List ℕ) : Type 0 wh
 unfoldable pub slotIn : Place → ℕ → ℕ
 slotIn p phase = cond (eqb (p .phase) phase) (p .slot) 0
 
-pub ruleset requires-laws = (slots-first, slots-second, waiting-note, advancing-working, advancing-persistent, advancing-notes, advancing-next, going-advancing, going-slots, going-shaped, going-note, going-waiting, going-next, going-first)
+pub ruleset requires-laws = (slots-first, slots-second, advancing-working, advancing-persistent, advancing-notes, advancing-next, going-advancing, going-slots, going-shaped, going-note, going-looking, going-clock, going-next, going-first)

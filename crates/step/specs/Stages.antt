@@ -22,7 +22,7 @@ unfoldable pub dueNext : Sizes → Table → ℕ → Place → Found
 dueNext z tb c p = cond (eqb (p .phase) contentsNext) Nothing (dueFrom z tb c (slotIn p reclaimNext))
 
 unfoldable pub waitingFrom : Sizes → List ℕ → ℕ → ℕ → Found
-waitingFrom z tr c p = firstOf (λ s. leb p s && isWaiting z tr (c - 1) s) (z .n)
+waitingFrom z tr c p = firstOf (λ s. leb p s && isWaiting tr (c - 1) s) (z .n)
 
 -- a slot that is due becomes free; where none is, the next line is flushed
 unfoldable pub reclaimOrFlush : Sizes → Store → ℕ → Place → Stepped

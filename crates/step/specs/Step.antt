@@ -76,11 +76,11 @@ headerFlushed z st s =
 unfoldable pub ticking : Sizes → Store → ℕ → Stepped
 ticking z st c =
     stepped Ticked (storeLine (st .working) (clockLine (c + 1))) (storeLine (st .persistent) (clockLine (c + 1)))
-    (emptied z (st .transient) (c - 1)) (place idle 0)
+    (emptied (st .transient) (c - 1)) (place idle 0)
 
 -- ---- the next line, from a place on
 unfoldable pub flushFrom : Sizes → Store → ℕ → ℕ → Stepped
-flushFrom z st c p = whereFound (firstOf (λ s. leb p s && isWaiting z (st .transient) (c - 1) s) (z .n)) (contentsFlushed z st) (ticking z st c)
+flushFrom z st c p = whereFound (firstOf (λ s. leb p s && isWaiting (st .transient) (c - 1) s) (z .n)) (contentsFlushed z st) (ticking z st c)
 
 unfoldable pub reclaimFrom : Sizes → Store → ℕ → ℕ → Stepped
 reclaimFrom z st c p = whereFound (firstOf (λ s. leb p s && due z (tableOf st) c s) (z .n)) (reclaimed z st) (flushFrom z st c 0)

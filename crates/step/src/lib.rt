@@ -10,10 +10,9 @@ ghost use mathlib.Core.Path.{_≡_};
 ghost use Prim.Native.Nat.{_<_};
 ghost use Rattle.image.specs.Layout.{mostSlots};
 ghost use Rattle.transient.specs.Store.{store, table};
-ghost use Rattle.transient.specs.Requires.{ShapedSlot};
 ghost use Rattle.step.specs.Step.{passing, reclaimed, headerFlushed, ticking, flushFrom, step};
 ghost use Rattle.step.specs.Stages.{dueNext, reclaimOrFlush};
-ghost use Rattle.step.specs.Requires.{Advancing, Going, slotIn};
+ghost use Rattle.step.specs.Requires.{Advancing, Going, Looking, slotIn};
 ghost use Rattle.step.specs.Moved.{moved};
 
 // The place an advance has reached.
@@ -118,7 +117,7 @@ fn tick(
     requires { ⌜ Advancing (now working) (now persistent) (now transient) z c ⌝ }
     ensures { λ r. ⌜ moved r (now (working .exit)) (now (persistent .exit)) (now (transient .exit)) ≡ ticking z (store (now (working .entry)) (now (persistent .entry)) (now (transient .entry))) c ⌝ }
 {
-    transient::notes::empty_list(transient, z, c - 1);
+    transient::lists::empty_list(transient, z, c - 1);
     image::shape::set_clock(working, c + 1);
     image::shape::set_clock(persistent, c + 1);
     let place = Place {
@@ -143,7 +142,7 @@ fn flush_from(
     requires { ⌜ Going (now working) (now persistent) (now transient) z c p ⌝ }
     ensures { λ r. ⌜ moved r (now (working .exit)) (now (persistent .exit)) (now (transient .exit)) ≡ flushFrom z (store (now (working .entry)) (now (persistent .entry)) (now (transient .entry))) c p ⌝ }
 {
-    match crate::due::waiting_from(transient, z, c, p) {
+    match transient::lists::waiting_from(transient, z, c - 1, p) {
         Found::At(s) => {
             image::contents::copy_contents(working, persistent, z.n, z.w, s);
             let place = Place {
@@ -171,7 +170,7 @@ fn slot_in(place: Place, phase: u32) -> usize
 
 // The next slot to reclaim; none where contents are next.
 fn due_next(working: &[u32], transient: &[u32], z: Sizes, c: u32, place: Place) -> Found
-    requires { ⌜ ShapedSlot (now working) (now transient) z (place .slot) ⌝ }
+    requires { ⌜ Looking (now working) (now transient) z c (place .slot) ⌝ }
     ensures { λ r. ⌜ r ≡ dueNext z (table (now (working .entry)) (now (transient .entry))) c place ⌝ }
 {
     if place.phase == Place::CONTENTS {

@@ -8,6 +8,7 @@ pub flush-from-spec : {M : Type 1} → statement M
 flush-from-spec =
     tie.close
     (tie.spec
+    (λ c. search (needs, lines, steps))
     (λ c κs. search (needs, lines, steps))
     (λ c. search (needs, lines, steps))
     (λ c κs. search (needs, lines, steps))

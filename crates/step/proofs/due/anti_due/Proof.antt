@@ -1,6 +1,6 @@
 -- `anti_due`: each way out is a law.
 use borrow.Author.Needs.{needs}
-use Rattle.step.specs.Exits.{dues}
+use Rattle.step.specs.DueExits.{dues}
 use Rattle.step.proofs.due.anti_due.Statement.{statement}
 use Rattle.step.proofs.due.anti_due.Tie as tie
 

@@ -1,10 +1,10 @@
--- `due_from`: a search from p on (`From`).
+-- `due_from`: a search from p on (`From`), sixteen slots a round.
 use borrow.Author.Needs.{needs}
+use Rattle.search.specs.From.{From}
 use Rattle.step.specs.Step.{due}
 use Rattle.transient.specs.Store.{table}
-use Rattle.step.specs.From.{From}
-use Rattle.step.specs.Exits.{dues}
 use Prim.Native.Nat.{_-_}
+use Rattle.step.specs.DueExits.{walks}
 use Rattle.step.proofs.due.due_from.Statement.{statement}
 use Rattle.step.proofs.due.due_from.Tie as tie
 
@@ -20,10 +20,17 @@ due-from-spec =
     (tie.spec
     Inv-loop
     μ-loop
-    (λ c. search (needs, dues))
-    (λ c κs. search (needs, dues))
-    (λ c. search (needs, dues))
-    (λ c. search (needs, dues))
-    (λ c. search (needs, dues))
-    (λ c. search (needs, dues))
-    (λ c. search (needs, dues)))
+    (λ c. search (needs, walks))
+    (λ c κs. search (needs, walks))
+    (λ c. search (needs, walks))
+    (λ c. search (needs, walks))
+    (λ c. search (needs, walks))
+    (λ c. search (needs, walks))
+    (λ c κs. search (needs, walks))
+    (λ c κs. search (needs, walks))
+    (λ c. search (needs, walks))
+    (λ c. search (needs, walks))
+    (λ c. search (needs, walks))
+    (λ c. search (needs, walks))
+    (λ c. search (needs, walks))
+    (λ c. search (needs, walks)))
