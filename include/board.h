@@ -10,7 +10,7 @@
  * An image of N slots (2 to 1,024) with W words of contents each (2 to 9) has 3 + 4N + WN words:
  * N, W, the clock, then N headers (kind, epoch, uid, board), then N contents (key, W - 1 value
  * words). The smallest has 15 words, the largest 13,315, which are 53,260 bytes. The notes of T
- * threads (1 to 16) have 6 + T + 5N words and begin with N; T is what their length leaves.
+ * threads (1 to 16) have 70 + T + 3N words and begin with N; T is what their length leaves.
  * board_image_words and board_transient_words work the lengths out.
  *
  * The notes also hold an index of the filled slots by board and key, so that a call on a job looks at a
@@ -115,7 +115,7 @@
 
 /* The version of this header. */
 #define BOARD_VERSION_MAJOR 0
-#define BOARD_VERSION_MINOR 8
+#define BOARD_VERSION_MINOR 9
 #define BOARD_VERSION_PATCH 0
 #define BOARD_VERSION (BOARD_VERSION_MAJOR * 10000 + BOARD_VERSION_MINOR * 100 + BOARD_VERSION_PATCH)
 
@@ -212,7 +212,7 @@ BOARD_INLINE const char *board_refusal_text(uint32_t refusal)
 /* ---- Making a store ---- */
 
 /* The words to allocate for an image of N slots of W words of contents, 3 + 4N + WN, and for the notes
- * of T threads, 6 + T + 5N; 0 where a size is out of range. */
+ * of T threads, 70 + T + 3N; 0 where a size is out of range. */
 size_t board_image_words(uint32_t slots, uint32_t words);
 size_t board_transient_words(uint32_t slots, uint32_t threads);
 

@@ -8,7 +8,7 @@
 
 #include <unistd.h>
 
-enum { SLOTS = 16, WORDS = 3, THREADS = 2, VALUE_WORDS = WORDS - 1, JOBS = 8, INDEX = 6 + THREADS + 3 * SLOTS };
+enum { SLOTS = 16, WORDS = 3, THREADS = 2, VALUE_WORDS = WORDS - 1, JOBS = 8, INDEX = 70 + THREADS + SLOTS };
 enum { PREFIX = 3, CONTENTS = PREFIX + 4 * SLOTS, SECONDS = 120 };
 
 static const uint32_t value[VALUE_WORDS] = {31, 32}, other[VALUE_WORDS] = {41, 42};

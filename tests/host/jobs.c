@@ -67,7 +67,7 @@ int main(void)
     boards();
     const size_t n = board_image_words(SLOTS, WORDS), tn = board_transient_words(SLOTS, THREADS);
     same("the length of an image", n, PREFIX + HEADER_WORDS * SLOTS + WORDS * SLOTS);
-    same("the length of the notes", tn, 6 + THREADS + 5 * SLOTS);
+    same("the length of the notes", tn, 70 + THREADS + 3 * SLOTS);
     uint32_t *w = block(n), *p = block(n), *t = block(tn);
     const uint32_t first[VALUE_WORDS] = {11, 12, 13}, second[VALUE_WORDS] = {21, 0, 23};
 

@@ -13,7 +13,7 @@ enum { DELETE = 3 };                            /* the kind of a header that is 
 enum { JOBS = 1, QUEUE = 2 };                   /* the two boards */
 enum { MOST_SLOTS = 96, MOST_WORDS = 9, MOST_VALUE = MOST_WORDS - 1, MOST_THREADS = 4 };
 enum { MOST_IMAGE = PREFIX + (HEADER_WORDS + MOST_WORDS) * MOST_SLOTS };
-enum { MOST_NOTES = 6 + MOST_THREADS + 5 * MOST_SLOTS };
+enum { MOST_NOTES = 70 + MOST_THREADS + 3 * MOST_SLOTS };
 enum { MOST_CHANGES = 5 }; /* in a list */
 
 /* A store of these sizes, its memory still to be set. */

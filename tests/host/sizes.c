@@ -165,10 +165,10 @@ static void with_notes_as_long_as(uint32_t slots, uint32_t threads, size_t notes
 /* Without an index, with half of one, a word short of one thread, and a word more than 16 threads need. */
 static void with_wrong_lengths(uint32_t slots, uint32_t threads)
 {
-    with_notes_as_long_as(slots, threads, 6 + threads + 3 * slots);
-    with_notes_as_long_as(slots, threads, 6 + threads + 4 * slots);
-    with_notes_as_long_as(slots, threads, 6 + 5 * slots);
-    with_notes_as_long_as(slots, threads, 6 + 16 + 5 * slots + 1);
+    with_notes_as_long_as(slots, threads, 70 + threads + slots);
+    with_notes_as_long_as(slots, threads, 70 + threads + 2 * slots);
+    with_notes_as_long_as(slots, threads, 70 + 3 * slots);
+    with_notes_as_long_as(slots, threads, 70 + 16 + 3 * slots + 1);
 }
 
 int main(void)
@@ -182,8 +182,8 @@ int main(void)
     with_note_out_of_range(NEXT_UID);
     with_note_out_of_range(NEXT_ORDER);
     for (int used = 0; used < 2; used++) {
-        with_notes_of(3, 6, 4, 1, used);
-        with_notes_of(4, 1, 3, 6, used);
+        with_notes_of(3, 4, 4, 1, used);
+        with_notes_of(4, 1, 3, 4, used);
     }
     printf("%zu answers, %zu wrong\n", calls, failed);
     return failed > 0;

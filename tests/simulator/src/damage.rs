@@ -354,11 +354,47 @@ pub fn wild_store(random: &mut Random, slots: u32) -> Store {
     }
     for slot in 0..sizes.slots {
         transient[layout.retired(slot)] = if random.chance(60) { 0 } else { wild_epoch(random, clock) };
-        transient[layout.waiting(0, slot)] = random.pick(&[0, 1, 2, u32::MAX]);
-        transient[layout.waiting(1, slot)] = random.pick(&[0, 0, 1, 0x8000_0000]);
+    }
+    // bits of slots that the board does not have among them
+    for list in [0, 1] {
+        for word in &mut transient[layout.waiting(list)] {
+            let any = random.word();
+            *word = random.pick(&[0, 0, 1, 0x8000_0000, u32::MAX, any, any]);
+        }
     }
     let [working, persistent] = [(); 2].map(|()| wild_image(random, sizes, clock));
     let mut store = Store { working, persistent, transient };
+    right_index(random, &mut store);
+    store
+}
+
+/// A store of many slots, few of which are due and few of which wait, at an end of the board or of sixteen or 32 slots or
+/// anywhere: an advance passes over the others. Bits that are no slot's are set too.
+pub fn sparse_store(random: &mut Random) -> Store {
+    let slots = random.pick(&[17, 31, 32, 33, 47, 48, 49, 63, 64, 65, 95, 100, 1023, 1024]);
+    let mut store = wild_store(random, slots);
+    let entry = store.enter().expect("a wild store passes the check");
+    for slot in entry.slots() {
+        let header = Header { kind: random.between(0, 2), epoch: entry.clock, uid: 1, board: JOBS };
+        entry.sizes.set_header(&mut store.working, slot, header);
+        store.transient[entry.layout.retired(slot)] = 0;
+    }
+    for thread in 0..entry.layout.threads {
+        store.transient[entry.layout.open(thread)] = 0;
+    }
+    let list = entry.layout.waiting(entry.clock - 1);
+    store.transient[list.clone()].fill(0);
+    for _ in 0..random.below(5) {
+        let (any, any_bit) = (random.between(0, slots - 1), random.below(1024));
+        let slot = random.pick(&[0, 15, 16, 31, 32, 33, slots - 1, slots - 1, any]).min(slots - 1) as usize;
+        let kind = random.between(1, 3);
+        let epoch = if kind == 3 { entry.clock.saturating_sub(random.between(2, 4)) } else { entry.clock };
+        entry.sizes.set_header(&mut store.working, slot, Header { kind, epoch, uid: 1, board: JOBS });
+        let retirements = [0, entry.clock - 1, entry.clock - 2, entry.clock - 2];
+        store.transient[entry.layout.retired(slot)] = random.pick(&retirements);
+        let bit = random.pick(&[slot, any_bit]);
+        store.transient[list.start + bit / 32] |= 1 << (bit % 32);
+    }
     right_index(random, &mut store);
     store
 }

@@ -142,9 +142,6 @@ fn store_header(store: &mut Store, entry: &Entry, slot: usize) {
 fn tick(store: &mut Store, entry: &Entry) {
     store.working[CLOCK] = entry.clock + 1;
     store.persistent[CLOCK] = entry.clock + 1;
-    for slot in entry.slots() {
-        let flag = entry.layout.waiting(entry.clock - 1, slot);
-        store.transient[flag] = 0;
-    }
+    store.transient[entry.layout.waiting(entry.clock - 1)].fill(0);
     set_place(store, NONE, 0);
 }

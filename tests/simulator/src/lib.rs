@@ -33,6 +33,7 @@ pub mod recovery;
 pub mod reference;
 pub mod remains;
 pub mod resave_cases;
+pub mod step_cases;
 pub mod store;
 pub mod stored;
 pub mod torn;

@@ -77,11 +77,11 @@ impl Entry {
     }
 
     pub fn join_waiting(&self, store: &mut Store, epoch: u32, slot: usize) {
-        store.transient[self.layout.waiting(epoch, slot)] = 1;
+        store.transient[self.layout.waiting(epoch)][slot / 32] |= 1 << (slot % 32);
     }
 
     pub fn is_waiting(&self, store: &Store, epoch: u32, slot: usize) -> bool {
-        store.transient[self.layout.waiting(epoch, slot)] != 0
+        store.transient[self.layout.waiting(epoch)][slot / 32] & 1 << (slot % 32) != 0
     }
 
     pub fn advance_is_underway(&self, store: &Store) -> bool {

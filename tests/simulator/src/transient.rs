@@ -1,4 +1,4 @@
-//! The layout of the notes: 6 + T + 5N words. They say their N; T is what their length leaves.
+//! The layout of the notes: 70 + T + 3N words. They say their N; T is what their length leaves.
 
 use crate::image::LARGEST;
 use std::ops::Range;
@@ -11,7 +11,10 @@ pub const NEXT_UID: usize = 2;
 pub const NEXT_ORDER: usize = 3;
 pub const PHASE: usize = 4;
 pub const PLACE_SLOT: usize = 5;
-const PREFIX: usize = 6;
+/// The waiting lists: a bit for each slot, the lowest bit of a word first. A list has room for 1,024 slots.
+const LISTS: usize = 6;
+const LIST_WORDS: usize = 32;
+const PREFIX: usize = LISTS + 2 * LIST_WORDS;
 
 /// Where things stand in the notes of a board of so many slots and threads.
 #[derive(Clone, Copy, PartialEq, Eq, Debug)]
@@ -27,11 +30,11 @@ impl Layout {
     }
 
     pub fn of(length: usize, slots: usize) -> Option<Layout> {
-        Layout::new(slots, length.checked_sub(PREFIX + 5 * slots)?)
+        Layout::new(slots, length.checked_sub(PREFIX + 3 * slots)?)
     }
 
     pub fn words(self) -> usize {
-        PREFIX + self.threads + 5 * self.slots
+        PREFIX + self.threads + 3 * self.slots
     }
 
     pub fn open(self, thread: usize) -> usize {
@@ -42,20 +45,20 @@ impl Layout {
         PREFIX + self.threads + slot
     }
 
-    /// The flag of a slot in the waiting list of an epoch, which is the clock or one below it.
-    pub fn waiting(self, epoch: u32, slot: usize) -> usize {
-        let list = if epoch % 2 == 0 { 1 } else { 2 };
-        PREFIX + self.threads + list * self.slots + slot
+    /// The waiting list of an epoch, which is the clock or one below it.
+    pub fn waiting(self, epoch: u32) -> Range<usize> {
+        let start = LISTS + if epoch % 2 == 0 { 0 } else { LIST_WORDS };
+        start..start + LIST_WORDS
     }
 
     /// The word of the index that leads to the first slot of a bucket (02, No. 6).
     pub fn bucket(self, bucket: usize) -> usize {
-        PREFIX + self.threads + 3 * self.slots + bucket
+        PREFIX + self.threads + self.slots + bucket
     }
 
     /// The word of the index that leads on from a slot.
     pub fn link(self, slot: usize) -> usize {
-        PREFIX + self.threads + 4 * self.slots + slot
+        PREFIX + self.threads + 2 * self.slots + slot
     }
 
     /// All words of the index.

@@ -39,8 +39,8 @@ fn names_have_these_buckets() {
 #[test]
 fn the_notes_end_in_buckets_and_links() {
     let layout = Layout::new(4, 2).unwrap();
-    assert_eq!((layout.bucket(0), layout.link(0), layout.words()), (20, 24, 28));
-    assert_eq!((layout.waiting(1, 3), layout.bucket(3), layout.link(3), layout.index()), (19, 23, 27, 20..28));
+    assert_eq!((layout.bucket(0), layout.link(0), layout.words()), (76, 80, 84));
+    assert_eq!((layout.retired(3), layout.bucket(3), layout.link(3), layout.index()), (75, 79, 83, 76..84));
 }
 
 /// Jobs 6 to 9 and entry 1 have bucket 3, job 10 has bucket 0.

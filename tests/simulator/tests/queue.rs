@@ -174,7 +174,7 @@ fn order_numbers_go_on_above_the_largest_that_survives() {
 #[test]
 fn jobs_do_not_raise_the_next_order_number() {
     let image = queued(image_with(4, 2, 9, &[(ALLOC, 5, 6, 30), (UPDATE, 6, 7, 4), (ALLOC, 8, 8, 5)]), &[1, 2]);
-    let mut store = Store { working: vec![1; image.len()], persistent: image, transient: vec![1; 27] };
+    let mut store = Store { working: vec![1; image.len()], persistent: image, transient: vec![1; 83] };
     assert_eq!([(); 2].map(|()| simulate(&mut store, &Call::Recover)), [WENT_ON, DONE]);
     assert_eq!(store.transient[..6], [4, 3, 8, 5, 0, 0]);
 }

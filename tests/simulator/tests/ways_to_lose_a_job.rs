@@ -70,7 +70,7 @@ fn a_label_one_below_the_clock_is_not_kept() {
 #[test]
 fn recovery_frees_a_kept_delete_after_its_payload() {
     let image = image_with(2, 2, 9, &[(DELETE, 6, 1, 3), (ALLOC, 5, 1, 3)]);
-    let mut store = Store { working: image.clone(), persistent: image, transient: vec![0; 17] };
+    let mut store = Store { working: image.clone(), persistent: image, transient: vec![0; 77] };
     assert_eq!(simulate(&mut store, &Call::Recover), WENT_ON);
     assert_eq!([0, 1].map(|slot| mark(&store.persistent, slot)), [[DELETE, 6, 1, JOBS], [0; 4]]);
     assert_eq!(simulate(&mut store, &Call::Recover), WENT_ON);

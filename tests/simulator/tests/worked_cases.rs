@@ -25,7 +25,7 @@ fn a_slot_is_kept_from_label_plus_two_on() {
 fn lengths_are_exact() {
     assert_eq!([image_words(2, 2), image_words(1024, 9)], [15, 13_315]);
     assert_eq!([image_words(1, 2), image_words(1025, 2), image_words(2, 1), image_words(2, 10)], [0; 4]);
-    assert_eq!([transient_words(2, 1), transient_words(1024, 16)], [17, 5142]);
+    assert_eq!([transient_words(2, 1), transient_words(1024, 16)], [77, 3158]);
     assert_eq!([transient_words(2, 0), transient_words(2, 17), transient_words(1, 1)], [0; 3]);
 }
 
@@ -61,7 +61,7 @@ fn an_alloc_survives_until_its_delete_is_kept() {
 fn sizes_out_of_range_decline_with_1() {
     for (slots, words, threads) in [(1, 2, 1), (1025, 2, 1), (2, 1, 1), (2, 10, 1), (2, 2, 0), (2, 2, 17)] {
         let image = PREFIX + (HEADER_WORDS + words as usize) * slots as usize;
-        let notes = (6 + threads + 5 * slots) as usize;
+        let notes = (70 + threads + 3 * slots) as usize;
         let mut store = Store { working: vec![0; image], persistent: vec![0; image], transient: vec![0; notes] };
         for head in [&mut store.working, &mut store.persistent] {
             head[..3].copy_from_slice(&[slots, words, 2]);
@@ -75,10 +75,10 @@ fn sizes_out_of_range_decline_with_1() {
     }
 }
 
-/// The notes of N 3, T 6 and of N 4, T 1 have 27 words both. They decline as format left them, and as a first job did.
+/// The notes of N 3, T 4 and of N 4, T 1 have 83 words both. They decline as format left them, and as a first job did.
 #[test]
 fn notes_of_other_sizes_decline_with_1() {
-    for ((slots, threads), (other_slots, other_threads)) in [((3, 6), (4, 1)), ((4, 1), (3, 6))] {
+    for ((slots, threads), (other_slots, other_threads)) in [((3, 4), (4, 1)), ((4, 1), (3, 4))] {
         let mut store = fresh(slots, threads);
         make(&mut store, &[BEGIN, new(0, 9)]);
         let mut other = fresh(other_slots, other_threads);
@@ -91,7 +91,7 @@ fn notes_of_other_sizes_decline_with_1() {
 /// Every call but format and recover declines with 1 and changes nothing; these two make the notes the store's own.
 fn declines_the_notes(store: &Store, other: &Store) {
     let before = Store { transient: other.transient.clone(), ..store.clone() };
-    assert_eq!((store.transient.len(), before.transient.len()), (27, 27));
+    assert_eq!((store.transient.len(), before.transient.len()), (83, 83));
     declines_with_1(&before);
     let [mut formatted, mut recovered] = [before.clone(), before];
     make(&mut formatted, &[Call::Format { slots: store.working[0], words: 2 }, BEGIN]);
@@ -126,12 +126,12 @@ fn declines_with_1(before: &Store) {
     }
 }
 
-/// 6 + T + 3N words, as before the notes had an index (02, No. 6).
+/// 70 + T + N words: all but the index (02, No. 6).
 #[test]
 fn notes_without_an_index_decline_with_1() {
     for (slots, threads) in [(2, 4), (8, 2), (1024, 16)] {
         let mut store = fresh(slots, threads);
-        store.transient.truncate((6 + threads + 3 * slots) as usize);
+        store.transient.truncate((70 + threads + slots) as usize);
         declines_with_1(&store);
         for call in [Call::Recover, Call::Format { slots, words: 2 }] {
             let mut after = store.clone();
@@ -165,14 +165,14 @@ fn a_board_of_2_with_one_job_is_full_and_can_be_emptied() {
 #[test]
 fn recovery_sets_the_next_uid_and_begins_at_slot_0() {
     let image = image_with(3, 2, 9, &[(ALLOC, 5, 6, 3), (UPDATE, 8, 7, 4)]);
-    let mut store = Store { working: vec![1; image.len()], persistent: image, transient: vec![1; 22] };
+    let mut store = Store { working: vec![1; image.len()], persistent: image, transient: vec![1; 80] };
     assert_eq!(simulate(&mut store, &Call::Recover), WENT_ON);
-    assert_eq!((store.working[0], &store.transient[..]), (1, &[1; 22][..]));
+    assert_eq!((store.working[0], &store.transient[..]), (1, &[1; 80][..]));
     assert_eq!(simulate(&mut store, &Call::Recover), DONE);
     assert_eq!(store.working, store.persistent);
     let survivor = Layout::new(3, 1).unwrap().bucket(bucket(3, (JOBS, 3)));
     let wanted = |place| [3, 2, 7, 1].get(place).copied().unwrap_or(u32::from(place == survivor));
-    assert_eq!(store.transient, (0..22).map(wanted).collect::<Vec<u32>>());
+    assert_eq!(store.transient, (0..80).map(wanted).collect::<Vec<u32>>());
 }
 
 #[test]

@@ -11,7 +11,7 @@ use differential::watch;
 use simulator::batch_cases::BatchCases;
 use simulator::boards::ToldApart;
 use simulator::calls::{image_words, refusal_of, transient_words, Call, Refusals};
-use simulator::damage::{any_image, damage_length, damaged_store, edge_word, wild_store};
+use simulator::damage::{any_image, damage_length, damaged_store, edge_word, sparse_store, wild_store};
 use simulator::generator::{any_call, start, unformatted, Mix};
 use simulator::image::Sizes;
 use simulator::index_cases::IndexCases;
@@ -20,6 +20,7 @@ use simulator::queue_cases::QueueCases;
 use simulator::random::Random;
 use simulator::remains::{CallsOnRemains, RecoveriesOfRemains};
 use simulator::resave_cases::ResaveCases;
+use simulator::step_cases::StepCases;
 use simulator::store::Store;
 
 /// Upper ends for the number of slots, most of them small.
@@ -34,6 +35,7 @@ struct Test {
     queue_cases: QueueCases,
     batch_cases: BatchCases,
     resave_cases: ResaveCases,
+    step_cases: StepCases,
     on_remains: CallsOnRemains,
     of_remains: RecoveriesOfRemains,
     index_cases: IndexCases,
@@ -46,7 +48,7 @@ fn main() {
     watch::start();
     let random = Random::new(seed);
     let (refusals, told_apart, queue_cases, batch_cases, on_remains, of_remains) = Default::default();
-    let (resave_cases, index_cases, misled, smallest) = Default::default();
+    let (resave_cases, step_cases, index_cases, misled, smallest) = Default::default();
     let (calls, accepted) = (0, 0);
     let mut test = Test {
         random,
@@ -57,6 +59,7 @@ fn main() {
         queue_cases,
         batch_cases,
         resave_cases,
+        step_cases,
         on_remains,
         of_remains,
         index_cases,
@@ -75,21 +78,23 @@ fn main() {
             test.on_damaged_index(&wild, 6);
         }
         test.changes(wild, 12);
+        test.far_steps();
     }
     let Test { calls, accepted, refusals, told_apart, queue_cases, batch_cases, on_remains, of_remains, .. } = test;
-    let Test { resave_cases, index_cases, misled, smallest, .. } = test;
+    let Test { resave_cases, step_cases, index_cases, misled, smallest, .. } = test;
     smallest.report(seed);
     let ToldApart { no_9, no_11, found_none } = told_apart;
     println!(
         "{calls} calls, no difference, {accepted} accepted, refusals by number {refusals:?}, slots told from jobs by \
          their board: no 9 {no_9}, no 11 {no_11}, none found {found_none}, {queue_cases}, {batch_cases}, {resave_cases}, \
-         {on_remains}, {of_remains}, {index_cases}, {misled}, seed {seed}"
+         {step_cases}, {on_remains}, {of_remains}, {index_cases}, {misled}, seed {seed}"
     );
     assert!(refusals[1..].iter().all(|&seen| seen >= 100), "too few of some refusal");
     assert!(told_apart.are_at_least(100), "too few slots that only their board tells from a job");
     assert!(queue_cases.are_at_least(100), "too few of some sort of queue calls");
     assert!(batch_cases.are_at_least(100), "too few of some sort of batches");
     assert!(resave_cases.are_at_least(100), "too few of some sort of sets of the value that a job has");
+    assert!(step_cases.are_at_least(100), "too few of some sort of advance calls far up a board");
     assert!(on_remains.are_at_least(100), "too few calls that met remains in some way");
     assert!(of_remains.are_at_least(100), "too few recoveries that met remains in some way");
     assert!(index_cases.are_at_least(100), "too few of some change of the index");
@@ -106,6 +111,7 @@ impl Test {
                 self.queue_cases.note(&before, call, reply);
                 self.batch_cases.note(&before, call, reply);
                 self.resave_cases.note(&before, call, reply);
+                self.step_cases.note(&before, call, store);
                 self.on_remains.note(&before, call, reply, store);
                 self.index_cases.note(&before, call, reply, store);
                 if *call == Call::Recover {
@@ -132,6 +138,14 @@ impl Test {
             if let Some(reply) = self.make(&mut store, &call) {
                 self.told_apart.note(&before, &call, reply);
             }
+        }
+    }
+
+    /// Advance calls that pass over most of a board.
+    fn far_steps(&mut self) {
+        let mut store = sparse_store(&mut self.random);
+        for _ in 0..6 {
+            self.make(&mut store, &Call::Advance);
         }
     }
 

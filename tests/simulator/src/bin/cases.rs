@@ -131,7 +131,7 @@ impl Cases {
         }
     }
 
-    /// Lengths around the right ones, for each slice alone; T 0 and T 17 among those of the notes, and 6 + T + 3N words.
+    /// Lengths around the right ones, for each slice alone; T 0 and T 17 among those of the notes, and 70 + T + N words.
     fn wrong_lengths(&mut self) {
         for image in small_images() {
             let (length, slots) = (image.len(), image[0]);

@@ -1,7 +1,8 @@
 //! The cases that 01 works out, what the board word changes (02, No. 2), the queue (02, No. 3), and memory that stores word
-//! by word (02, No. 4), on the library.
+//! by word (02, No. 4), and slots far up a board, on the library.
 //! Usage: worked
 
+mod far;
 mod queue;
 mod remains;
 
@@ -34,7 +35,8 @@ fn main() {
         a_slot_on_another_board,
         recoveries_of_other_boards,
     ];
-    let cases: Vec<fn() -> usize> = cases.into_iter().chain(queue::CASES).chain(remains::CASES).collect();
+    let cases: Vec<fn() -> usize> =
+        cases.into_iter().chain(queue::CASES).chain(remains::CASES).chain(far::CASES).collect();
     let calls: usize = cases.iter().map(|case| case()).sum();
     println!("{} cases, {calls} calls", cases.len());
 }
@@ -52,9 +54,9 @@ fn sizes_out_of_range() -> usize {
 }
 
 /// "the images or notes differ in sizes": a store with the notes of another N and T, as format left them and as a first
-/// job left them. They are as long as its own: N 3, T 6 and N 4, T 1 have 27 words both.
+/// job left them. They are as long as its own: N 3, T 4 and N 4, T 1 have 83 words both.
 fn notes_of_other_sizes() -> usize {
-    let pairs = [((3, 6), (4, 1)), ((4, 1), (3, 6)), ((1024, 1), (1023, 6)), ((2, 16), (5, 1))];
+    let pairs = [((3, 4), (4, 1)), ((4, 1), (3, 4)), ((1024, 1), (1023, 4)), ((2, 16), (7, 1))];
     let mut calls = 0;
     for ((slots, threads), (other_slots, other_threads)) in pairs {
         let [mut own, mut other] = [sized(slots, 2, threads), sized(other_slots, 2, other_threads)];
@@ -117,12 +119,12 @@ fn marks_of_three_words() -> usize {
         + each_declines_with_1(&mut store, &[6])
 }
 
-/// Notes of 6 + T + 3N words, as they were before they had an index: no call takes them.
+/// Notes of 70 + T + N words, all but the index: no call takes them.
 fn notes_without_an_index() -> usize {
     let mut calls = 0;
     for (slots, threads) in [(2, 4), (8, 2), (16, 4), (1024, 16)] {
         let mut store = sized(slots, 2, threads);
-        store.transient.truncate((6 + threads + 3 * slots) as usize);
+        store.transient.truncate((70 + threads + slots) as usize);
         calls += make(&mut store, &[(Call::Format { slots, words: 2 }, 1), (Call::Recover, refused(1))]);
         calls += each_declines_with_1(&mut store, &[6]);
     }
@@ -307,7 +309,7 @@ fn make(store: &mut Store, calls: &[(Call, u64)]) -> usize {
 fn sized(slots: u32, words: u32, threads: u32) -> Store {
     let mut image = vec![0; PREFIX + (HEADER_WORDS + words as usize) * slots as usize];
     image[..3].copy_from_slice(&[slots, words, 2]);
-    let mut transient = vec![0; (6 + threads + 5 * slots) as usize];
+    let mut transient = vec![0; (70 + threads + 3 * slots) as usize];
     transient[..4].copy_from_slice(&[slots, slots - 1, 1, 1]);
     Store { working: image.clone(), persistent: image, transient }
 }

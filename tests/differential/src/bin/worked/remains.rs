@@ -221,7 +221,7 @@ fn cuts_within_each_store() -> usize {
         while let Some(persistent) = torn.pop() {
             images += 1;
             assert_eq!(answers(&bytes_of(&persistent))[1], jobs, "{persistent:?}");
-            let mut crashed = Store { working: random.junk(before.len()), persistent, transient: random.junk(37) };
+            let mut crashed = Store { working: random.junk(before.len()), persistent, transient: random.junk(89) };
             let found = crashed.persistent.clone();
             if step(&mut crashed, &Call::Recover) == WENT_ON && images < 400 {
                 torn.extend(torn_images(&found, &crashed.persistent, &mut random));
