@@ -5,7 +5,6 @@ use mathlib.Core.List.{List, _++_}
 use mathlib.Core.Bool.{Bool, true, false}
 use mathlib.Core.Logic.{⊎-elim}
 use lib.ListN.{length, getD, set, take, drop, replicate, length-take, length-drop, length-replicate}
-use lib.Seq.{take-all}
 use lib.Dec.{leb, ltb, eqb}
 use borrow.Author.Tests.{eq-eqb, ne-eqb}
 use native.Mathlib.Omega.{arith}
@@ -20,7 +19,7 @@ use Rattle.image.specs.Name.{nameOf, nameAt, misnamed}
 use Rattle.image.specs.Requires.{kindAt, epochAt, uidAt, boardAt, heldHeader, HeaderFits, InRange, Slot, SlotOf, Slots, slot, header-fits, slot-of}
 use Rattle.image.specs.Bytes.{wordsOf, Byte, InWords, Decodes, words-length, words-at}
 use Rattle.image.specs.InPlace.{place-word, place-kind, place-key, place-slot, place-header, place-name, head-word}
-use Rattle.image.specs.Laws.{area-top, sizes-true, shaped, length-contents, part-is, part-stored, part-line, header-part}
+use Rattle.image.specs.Laws.{area-top, sizes-true, shaped, length-contents, part-is, part-line, header-part}
 use Rattle.image.specs.Storing.{storings}
 
 -- ---- headers
@@ -123,12 +122,12 @@ contents-copied {a} {d} {n} {w} {s} {b} z at e =
 
 pub part-cleared : (l : List ℕ) (b k : ℕ) {y : List ℕ} → b + k ≤ length l → y ≡ replicate (length (take (b + k - b) (drop b l))) 0
     → take b l ++ (y ++ drop (b + k - b) (drop b l)) ≡ stored l b (replicate k 0) k
+unfolding storeLine
 part-cleared l b k h e =
     let e′ : b + k - b ≡ k = omega arith in
     let long : length (take k (drop b l)) ≡ k = simp (length-take, length-drop) (omega arith) in
-    let zeros : List ℕ = replicate k 0 in
-    let all = length-replicate {A = ℕ} k 0 in
-    rw (e, e′, long) (rw (take-all k zeros (omega arith)) at (part-stored l b zeros k h (omega arith)))
+    let all : length (replicate {A = ℕ} k 0) ≡ k = length-replicate k 0 in
+    rw (e, e′, long) (rw all at (part-line l (record { at = b; words = replicate k 0 }) k all h))
 
 -- ---- names
 pub name-made : (l : List ℕ) (n w s : ℕ) {b k : ℕ} → b ≡ boardAt l s → k ≡ keyAt l n w s → nameOf b k ≡ nameAt l n w s
