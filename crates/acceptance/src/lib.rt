@@ -1,4 +1,6 @@
 // What recovery refuses in an image: refusals 1 to 4.
+#![tactic(auto)]
+
 pub mod bytes;
 pub mod marks;
 pub mod names;

@@ -1,4 +1,6 @@
 // One advance call: one line becomes lasting.
+#![tactic(auto)]
+
 pub mod open;
 
 ghost use Rattle.std.specs.Prelude.{◌≡◌, ◌≤◌, length};

@@ -2,6 +2,8 @@
 //
 // The memory lent for m spots and m slots is four words for each: the head of the spot's chain, then for the slot the next one below it on
 // its chain, its number, which is 0 where it is not linked, and its label. A place in a chain is one more than a slot, and 0 at its end.
+#![tactic(auto)]
+
 ghost use Rattle.std.specs.Prelude.{◌≡◌, ◌+◌, ◌*◌, ◌-◌, set};
 ghost use Rattle.search.specs.Some.{any_of};
 ghost use Rattle.chains.specs.Chains.{spot, head_of, number_of, label_of, below_of, linked_at, pair_in, Lent, Blank, Kin};

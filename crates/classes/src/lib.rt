@@ -1,4 +1,6 @@
 // The four classes of slots, and how many slots of an image are in each.
+#![tactic(auto)]
+
 ghost use Rattle.std.specs.Prelude.{◌≡◌, not, ◌&&◌, ◌<◌, ◌+◌};
 ghost use Rattle.search.specs.Count.{count};
 ghost use Rattle.survival.specs.Survivors.{kept};

@@ -1,4 +1,6 @@
 // What the programs share: bytes from standard input, the image that they are, and the line of a refusal.
+#![tactic(auto)]
+
 ghost use Rattle.std.specs.Prelude.{◌≡◌, ◌≤◌, length};
 ghost use Rattle.io.specs.Counts.{IsPrefixLen};
 ghost use Rattle.text.specs.Putting.{Spelt};

@@ -1,4 +1,6 @@
 // Format: a fresh store.
+#![tactic(auto)]
+
 ghost use Rattle.std.specs.Prelude.{◌≡◌, length};
 ghost use Rattle.image.specs.Layout.{image_words};
 ghost use Rattle.transient.specs.Store.{store, outcome};

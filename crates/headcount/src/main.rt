@@ -1,4 +1,6 @@
 // The head count (02, No. 1): reads an image from standard input and prints how many slots are in each class, and the sum.
+#![tactic(auto)]
+
 ghost use Rattle.std.specs.Prelude.{◌≡◌, ◌+◌, ◌≤◌, length};
 ghost use Rattle.text.specs.Putting.{Appended, Spelt};
 ghost use Rattle.reply.specs.declared.Check.TheVariants.{Accepted};

@@ -1,6 +1,8 @@
 // The index in the notes: each filled slot stands on the chain of its name's bucket, in slot order.
 //
 // A link is a word, one more than the slot that it leads to. One that leads to no slot further up ends its chain, so every walk ends.
+#![tactic(auto)]
+
 ghost use Rattle.std.specs.Prelude.{◌≡◌, ◌+◌, ◌<◌};
 ghost use Rattle.image.specs.Layout.{most_slots};
 ghost use Rattle.chains.specs.Requires.{Spots};

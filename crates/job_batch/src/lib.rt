@@ -1,4 +1,6 @@
 // Batch: a list of news, sets and deletes within one operation, up to the first that declines.
+#![tactic(auto)]
+
 ghost use Rattle.std.specs.Prelude.{◌≡◌, ◌/◌, ◌+◌, length};
 ghost use Rattle.transient.specs.Store.{store, table, sizes_of, outcome};
 ghost use Rattle.transient.specs.Calls.{changed};

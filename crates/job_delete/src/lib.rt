@@ -1,4 +1,6 @@
 // Delete: a job ends, at once or behind an anti-payload.
+#![tactic(auto)]
+
 ghost use Rattle.std.specs.Prelude.{◌≡◌};
 ghost use Rattle.transient.specs.Store.{store, table, outcome};
 ghost use Rattle.transient.specs.Calls.{changed};

@@ -1,4 +1,6 @@
 // New: a job that was not there.
+#![tactic(auto)]
+
 ghost use Rattle.std.specs.Prelude.{◌≡◌};
 ghost use Rattle.transient.specs.Store.{store, table, sizes_of, outcome};
 ghost use Rattle.transient.specs.Calls.{changed};

@@ -1,4 +1,6 @@
 // Read: a live job's value, as a part of the working image; and the answers that look shares with it.
+#![tactic(auto)]
+
 ghost use Rattle.std.specs.Prelude.{◌≡◌, ◌+◌};
 ghost use Rattle.image.specs.Layout.{slots_of, width_of, contents_at, value_at};
 ghost use Rattle.image.specs.Requires.{Slot};

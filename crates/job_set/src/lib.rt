@@ -1,4 +1,6 @@
 // Set: another value for a live job.
+#![tactic(auto)]
+
 ghost use Rattle.std.specs.Prelude.{◌≡◌};
 ghost use Rattle.transient.specs.Store.{store, table, sizes_of, outcome};
 ghost use Rattle.transient.specs.Calls.{changed};

@@ -1,4 +1,6 @@
 // The image lister (01): reads an image from standard input and prints its clock and its survivors.
+#![tactic(auto)]
+
 ghost use Rattle.std.specs.Prelude.{◌≡◌, ◌+◌, ◌*◌, ◌≤◌, length};
 ghost use Rattle.text.specs.Putting.{Appended, Spelt};
 ghost use Rattle.reply.specs.declared.Check.TheVariants.{Accepted};

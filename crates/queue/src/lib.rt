@@ -1,4 +1,6 @@
 // The hand-over queue (02, No. 3): what its calls look up in the working table.
+#![tactic(auto)]
+
 ghost use Rattle.std.specs.Prelude.{◌≡◌};
 ghost use Rattle.search.specs.First.{found};
 ghost use Rattle.search.specs.Some.{any_of};

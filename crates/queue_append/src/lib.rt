@@ -1,4 +1,6 @@
 // Append: an entry at the back of the queue, under the next order number.
+#![tactic(auto)]
+
 ghost use Rattle.std.specs.Prelude.{◌≡◌, ◌≤◌, length};
 ghost use Rattle.transient.specs.Layout.{head_words};
 ghost use Rattle.transient.specs.Store.{store, table, sizes_of, outcome};

@@ -1,4 +1,6 @@
 // Look: the value of the queue's front, as a part of the working image.
+#![tactic(auto)]
+
 ghost use Rattle.std.specs.Prelude.{◌≡◌};
 ghost use Rattle.transient.specs.Store.{store, table};
 ghost use Rattle.transient.specs.Requires.{Entered};

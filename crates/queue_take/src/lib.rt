@@ -1,4 +1,6 @@
 // Take: the front of the queue ends, as a deleted job does.
+#![tactic(auto)]
+
 ghost use Rattle.std.specs.Prelude.{◌≡◌};
 ghost use Rattle.transient.specs.Store.{store, table, outcome};
 ghost use Rattle.transient.specs.Calls.{changed};

@@ -1,4 +1,6 @@
 // One step of recover: check, free one header, or finish.
+#![tactic(auto)]
+
 ghost use Rattle.std.specs.Prelude.{◌≡◌, not, length};
 ghost use Rattle.search.specs.Largest.{raised};
 ghost use Rattle.image.specs.Layout.{queue_board, key_at};

@@ -1,4 +1,6 @@
 // Why a call declines, and the verdict that every check gives.
+#![tactic(auto)]
+
 ghost use Rattle.std.specs.Prelude.{◌≡◌};
 ghost use Rattle.reply.specs.Refusals.{refusal_number, declined_number};
 

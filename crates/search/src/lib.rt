@@ -1,5 +1,7 @@
 // What every search in this project answers, and where one goes on that looks at several indices a round. The definitions and
 // laws of searches and counts stand in specs/.
+#![tactic(auto)]
+
 ghost use Rattle.std.specs.Prelude.{◌≡◌};
 ghost use Rattle.search.specs.Rounds.{lesser};
 

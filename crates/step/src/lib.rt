@@ -1,4 +1,6 @@
 // One step of an advance: the next line is stored. The place goes through it by value.
+#![tactic(auto)]
+
 pub mod due;
 pub mod lent;
 pub mod lines;

@@ -1,4 +1,6 @@
 // Which slots of an image survive a crash: kept, and what a kept slot meets of its uid.
+#![tactic(auto)]
+
 pub mod rivals;
 
 ghost use Rattle.std.specs.Prelude.{◌≡◌};

@@ -1,4 +1,6 @@
 // Sync: advance calls until two ticks have happened. It stores no line of its own.
+#![tactic(auto)]
+
 pub mod answer;
 
 ghost use Rattle.std.specs.Prelude.{◌≡◌, ◌*◌};

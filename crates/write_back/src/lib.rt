@@ -1,4 +1,6 @@
 // A word written back: the memory copies one from working to persistent outside of any advance.
+#![tactic(auto)]
+
 ghost use Rattle.std.specs.Prelude.{◌≡◌, length};
 ghost use Rattle.transient.specs.Store.{store, outcome};
 ghost use Rattle.write_back.specs.WriteBack.{write_back};
