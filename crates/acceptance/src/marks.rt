@@ -7,7 +7,7 @@ ghost use Rattle.acceptance.specs.Parts.{JudgesPart, JudgedPart};
 use image::header::Header;
 
 // What a pass over the slots found: a slot that is refused, or two slots that are the same thing.
-#[derive(Drop)]
+#[derive(Clone, Copy)]
 pub enum Verdict {
     Bad,
     Once,

@@ -10,7 +10,7 @@ use image::header::Header;
 use reply::{Check, Refusal};
 
 // The number of jobs that survive, or a refusal.
-#[derive(Drop)]
+#[derive(Clone, Copy)]
 pub enum Jobs {
     Declined(Refusal),
     Count(usize),

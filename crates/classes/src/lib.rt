@@ -10,7 +10,7 @@ ghost use Rattle.classes.specs.Requires.{too_new};
 
 use image::header::Header;
 
-#[derive(Drop)]
+#[derive(Clone, Copy)]
 pub enum Class {
     Free,
     Surviving,
@@ -21,7 +21,7 @@ pub enum Class {
 }
 
 // How many slots are in each class.
-#[derive(Drop)]
+#[derive(Clone, Copy)]
 pub struct HeadCount {
     pub free: u32,
     pub surviving: u32,

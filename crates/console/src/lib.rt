@@ -7,11 +7,15 @@ ghost use Rattle.text.specs.Putting.{Spelt};
 ghost use Rattle.console.specs.Console.{refused_line};
 ghost use Rattle.console.specs.Requires.{Taken};
 
-use libc::STDIN_FILENO;
 use reply::{Check, Refusal};
 
+// The file descriptors of standard input and output.
+const STDIN: i32 = 0;
+
+pub const STDOUT: i32 = 1;
+
 // An image that recovery accepts, as the first so many words of a buffer; or why there is none.
-#[derive(Drop)]
+#[derive(Clone, Copy)]
 pub enum Input {
     Image(usize),
     Refused(Refusal),
@@ -20,14 +24,14 @@ pub enum Input {
 // Is there a byte more than the largest image has?
 fn more_input() -> bool {
     let mut next = [0u8; 1];
-    0 < io::read_full(STDIN_FILENO, &mut next)
+    0 < io::read_full(STDIN, &mut next)
 }
 
 // Reads standard input to its end. More than `bytes` has room for counts as none: both are refused with 1.
 pub fn read_bytes(bytes: &mut [u8]) -> usize
     ensures { IsPrefixLen result bytes.new }
 {
-    let n = io::read_full(STDIN_FILENO, bytes);
+    let n = io::read_full(STDIN, bytes);
     if more_input() {
         return 0;
     }

@@ -1,6 +1,6 @@
 -- A start has the invariant.
 use Rattle.std.specs.Prelude.{ℕ, ◌+◌, ◌≤◌, ◌≡◌, refl, []}
-use Rattle.std.proofs.Math.Logic.{Iff·trans}
+use Rattle.std.proofs.Math.Logic.Iff.{trans as Iff-trans}
 use mathlib.Core.List.Memᴰ
 use Rattle.std.proofs.Common.{arith}
 use Rattle.image.specs.declared.name.Name.{Name}
@@ -59,5 +59,5 @@ module _ {st : State} (t : Start st) where
     underway = λ s. rw t.rest rest-underway;
     late = rw t.empty (λ ch m. absurd (Memᴰ.not-nil m));
     shown = λ e lo hi k v.
-        rw (t.empty, no_change e st.start) (Iff·trans (alike e st.clock (omega arith) k v, alike st.clock e hi k v) (t.jobs k v));
+        rw (t.empty, no_change e st.start) (Iff-trans (alike e st.clock (omega arith) k v, alike st.clock e hi k v) (t.jobs k v));
   }

@@ -1,7 +1,7 @@
 -- A cut: what recovery makes of the persistent entries, in terms of what was visible at the clock less 2.
 use Rattle.std.specs.Prelude.{ℕ, ◌+◌, ◌≤◌, ◌≡◌, ◌≢◌, ◌⊎◌, ◌↔◌}
 use Rattle.std.proofs.Common.{sym, ◌∙◌, inl, inr, arith}
-use Rattle.std.proofs.Math.Logic.{Iff·trans}
+use Rattle.std.proofs.Math.Logic.Iff.{trans as Iff-trans}
 use Rattle.std.proofs.Math.Option.{some}
 use Rattle.std.proofs.Math.Decide.{ℕ_discrete, dec_le}
 use Rattle.image.specs.declared.name.Name.{Name}
@@ -123,4 +123,4 @@ module _ {st : State} (i : Inv st) {e : ℕ} (c : e + 2 ≡ st.clock) where
 
   -- .. and those of the reference map at e
   pub cut-jobs : (k : Name) (v : Value) → CutShows e st.slots k v ↔ (jobs_at e st.start st.row k ≡ some v)
-  cut-jobs k v = Iff·trans (holds k v) (i.shown e (omega arith) (omega arith) k v)
+  cut-jobs k v = Iff-trans (holds k v) (i.shown e (omega arith) (omega arith) k v)

@@ -1,7 +1,7 @@
 -- Words of the working side that are copied to the persistent one keep the invariant: any of them, so a line, or what a cut leaves of it.
 use Rattle.std.specs.Prelude.{ℕ, ◌≤◌, ◌≡◌, refl, ◌⊎◌}
 use Rattle.std.proofs.Common.{◌∙◌, inl, inr, arith}
-use Rattle.std.proofs.Math.Logic.{Iff·trans}
+use Rattle.std.proofs.Math.Logic.Iff.{trans as Iff-trans}
 use Rattle.image.specs.Torn.{Mixed}
 use Rattle.crash.specs.Table.{Put, every-put}
 use Rattle.crash.specs.Slots.{Entry, Slot, State, head_of, SameHead, SameLine, Worded, Waits, One, Underway, Inv}
@@ -108,7 +108,7 @@ module _ {st : State} {g : ℕ → Slot} (i : Inv st) (all : (s : ℕ) → g s �
     next = dressed-next kept i.next;
     underway = λ s. rw (all s) (underway (copied s) st (i.underway s));
     late = i.late;
-    shown = λ e lo hi k v. Iff·trans (dressed-shows kept e k v) (i.shown e lo hi k v);
+    shown = λ e lo hi k v. Iff-trans (dressed-shows kept e k v) (i.shown e lo hi k v);
   }
 
 -- .. into one slot

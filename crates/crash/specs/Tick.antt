@@ -1,6 +1,6 @@
 -- The clock goes on and keeps the invariant.
 use Rattle.std.specs.Prelude.{ℕ, suc, ◌+◌, ◌≤◌, ◌≡◌, ◌↔◌}
-use Rattle.std.proofs.Math.Logic.{Iff·trans}
+use Rattle.std.proofs.Math.Logic.Iff.{trans as Iff-trans}
 use Rattle.std.proofs.Math.Option.{some}
 use Rattle.std.proofs.Common.{arith}
 use Rattle.std.proofs.Math.Decide.{dec_le}
@@ -68,7 +68,7 @@ module _ {st : State} {g : ℕ → Slot} (i : Inv st) (t : Tick st g) where
     | no a ↦
         let q : e ≡ suc st.clock = omega arith in
         rw (q, jobs-agree st.clock (suc st.clock) st.start st.row (omega arith) i.late)
-        (Iff·trans (new k v) (i.shown st.clock (omega arith) (omega arith) k v))
+        (Iff-trans (new k v) (i.shown st.clock (omega arith) (omega arith) k v))
   ]
 
   -- the three thresholds move up by one
@@ -81,5 +81,5 @@ module _ {st : State} {g : ℕ → Slot} (i : Inv st) (t : Tick st g) where
     next = dressed-next kept i.next;
     underway = λ s. rest-underway;
     late = λ ch m. omega (arith, i.late ch m);
-    shown = λ e lo hi k v. Iff·trans (dressed-shows kept e k v) (shown e lo hi k v);
+    shown = λ e lo hi k v. Iff-trans (dressed-shows kept e k v) (shown e lo hi k v);
   }

@@ -2,7 +2,7 @@
 -- row and the image's own jobs.
 use Rattle.std.specs.Prelude.{ℕ, ◌+◌, ◌-◌, ◌≤◌, ◌<◌, ◌≡◌, refl, true, false, ◌≢◌, ◌↔◌, List, [], length, leb}
 use Rattle.std.proofs.Common.{sym, ◌∙◌, inl, ⊎_elim, arith}
-use Rattle.std.proofs.Math.Logic.{Iff·trans}
+use Rattle.std.proofs.Math.Logic.Iff.{trans as Iff-trans}
 use mathlib.Core.List.Memᴰ
 use borrow.Author.Tests.{eq-eqb, ne_eqb, leb-true}
 use Rattle.std.proofs.Math.Decide.{dec_lt}
@@ -303,7 +303,7 @@ module _ {l tr : List ℕ} (z : Clean l tr) where
         };
         rest = rests;
         empty = refl;
-        jobs = λ k v. Iff·trans (shown k v) (let j = jobs-of k v z.accepted refl refl in (j.1, j.0));
+        jobs = λ k v. Iff-trans (shown k v) (let j = jobs-of k v z.accepted refl refl in (j.1, j.0));
       }
 
   -- the notes have the length of n slots and t threads

@@ -2,7 +2,7 @@
 use Rattle.std.specs.Prelude.{ℕ, ◌+◌, ◌-◌, ◌≤◌, ◌<◌, ◌≡◌, true, false, ◌≢◌, ◌↔◌}
 use Rattle.std.proofs.Math.Path.{sym}
 use Rattle.std.proofs.Common.{ap, ◌∙◌, eqb-true, arith}
-use Rattle.std.proofs.Math.Logic.{Iff·trans}
+use Rattle.std.proofs.Math.Logic.Iff.{trans as Iff-trans}
 use mathlib.Core.List.{List, Memᴰ}
 use Rattle.std.proofs.Math.Dec.{eqb}
 use Rattle.search.specs.Bools.{never, refuted, and_left, and_right}
@@ -167,7 +167,7 @@ module _ {sz : Sizes} {start : Jobs} {st : Store} {p : Plain} (g : Good sz start
   cut-map k =
       let i = g.persistent in
       option-same (jobs_of image k) (jobs_at e start p.row k)
-      (λ v. Iff·trans (jobs-of k v cut-accepted i.slots-is i.width_is) (Iff·trans (cut-shown k v) (cut-jobs g.inv cut-clock k v)))
+      (λ v. Iff-trans (jobs-of k v cut-accepted i.slots-is i.width_is) (Iff-trans (cut-shown k v) (cut-jobs g.inv cut-clock k v)))
 
   -- so a cut may fall here
   pub good-cuts : Cuts start st.persistent p

@@ -10,7 +10,6 @@ ghost use Rattle.headcount.specs.Requires.{earlier, later};
 
 use classes::HeadCount;
 use console::Input;
-use libc::STDOUT_FILENO;
 
 fn put_earlier(out: &mut [u8], c: HeadCount) -> usize
     requires { 160 ≤ length out.old }
@@ -69,7 +68,7 @@ fn run(bytes: &mut [u8], words: &mut [u32], out: &mut [u8])
 {
     let n = console::read_bytes(bytes);
     let k = count_bytes(out, &bytes[..n], words);
-    io::write_all(STDOUT_FILENO, &out[..k]);
+    io::write_all(console::STDOUT, &out[..k]);
 }
 
 fn main() {

@@ -4,7 +4,7 @@ ghost use Rattle.image.specs.Layout.{header, free_header, fresh_header, updated_
 ghost use Rattle.image.specs.Line.{header_line, store_line};
 ghost use Rattle.image.specs.Requires.{HeaderFits, board_at, held_header};
 
-#[derive(Drop)]
+#[derive(Clone, Copy)]
 pub struct Header {
     pub kind: u32,
     // 01: the label

@@ -6,7 +6,7 @@ ghost use Rattle.image.specs.Requires.{Slot};
 use crate::header::Header;
 
 // The name of a job or of a queue's entry: a board, and a key on it.
-#[derive(Drop)]
+#[derive(Clone, Copy)]
 pub struct Name {
     pub board: u32,
     pub key: u32,

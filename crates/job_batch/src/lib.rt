@@ -14,7 +14,7 @@ use reply::{Check, Refusal};
 use transient::sizes::Sizes;
 
 // How many changes were accepted, and what ended the batch: a refusal, or `Accepted` where none did.
-#[derive(Drop)]
+#[derive(Clone, Copy)]
 pub struct Batch {
     pub accepted: u32,
     pub ended: Check,

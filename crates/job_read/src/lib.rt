@@ -16,7 +16,7 @@ use table::find::Lookup;
 use transient::sizes::Sizes;
 
 // The slot whose value is shown, or why none is.
-#[derive(Drop)]
+#[derive(Clone, Copy)]
 pub enum Reading {
     Shown(usize),
     Declined(Refusal),

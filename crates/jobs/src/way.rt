@@ -9,7 +9,7 @@ use reply::Refusal;
 use transient::sizes::Sizes;
 
 // The caller's open epoch, or why the call declines.
-#[derive(Drop)]
+#[derive(Clone, Copy)]
 pub enum Way {
     Open(u32),
     Declined(Refusal),

@@ -14,7 +14,6 @@ ghost use Rattle.lister.specs.Requires.{head_figures, slot_figures, line_end, sl
 
 use console::Input;
 use image::header::Header;
-use libc::STDOUT_FILENO;
 
 fn put_figures(out: &mut [u8], clock: u32, survivors: usize) -> usize
     requires { 262208 ≤ length out.old }
@@ -145,7 +144,7 @@ fn run(bytes: &mut [u8], words: &mut [u32], out: &mut [u8])
 {
     let n = console::read_bytes(bytes);
     let k = list_bytes(out, &bytes[..n], words);
-    io::write_all(STDOUT_FILENO, &out[..k]);
+    io::write_all(console::STDOUT, &out[..k]);
 }
 
 // The text has room for a first line of 64 bytes and 1,024 lines of 256.

@@ -69,7 +69,7 @@ pub fn any_newer(working: &[u32], transient: &[u32], z: Sizes, e: u32) -> bool
 }
 
 // The front so far: its slot, n for none, and its order number.
-#[derive(Drop)]
+#[derive(Clone, Copy)]
 pub struct Best {
     pub slot: usize,
     pub order: u32,

@@ -19,7 +19,7 @@ use search::Found;
 use transient::sizes::Sizes;
 
 // The order number that the entry was given, or why there is none.
-#[derive(Drop)]
+#[derive(Clone, Copy)]
 pub enum Append {
     Given(u32),
     Declined(Refusal),

@@ -16,7 +16,7 @@ use search::Found;
 use transient::sizes::Sizes;
 
 // One recover call's answer: "went on", "done", or a refusal.
-#[derive(Drop)]
+#[derive(Clone, Copy)]
 pub enum Recovery {
     WentOn,
     Done,
@@ -120,7 +120,7 @@ fn raise_order(img: &[u32], flags: &[bool; 1024], n: usize, w: usize, s: usize, 
 }
 
 // The next uid and the next order number: each is one above the largest that survives, and a job's key is no order number.
-#[derive(Drop)]
+#[derive(Clone, Copy)]
 pub struct Numbers {
     pub uid: u32,
     pub order: u32,

@@ -5,7 +5,7 @@ ghost use Rattle.std.specs.Prelude.{◌≡◌};
 ghost use Rattle.reply.specs.Refusals.{refusal_number, declined_number};
 
 // One case for each number of 01's table "Where each call can decline".
-#[derive(Drop)]
+#[derive(Clone, Copy)]
 pub enum Refusal {
     // N, W or T out of range, a wrong length, or a note that names no slot
     BadSizes,
@@ -35,7 +35,7 @@ pub enum Refusal {
     QueueEmpty,
 }
 
-#[derive(Drop)]
+#[derive(Clone, Copy)]
 pub enum Check {
     Accepted,
     Refused(Refusal),

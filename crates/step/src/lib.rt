@@ -18,7 +18,7 @@ use search::Found;
 use transient::sizes::Sizes;
 
 // The place an advance has reached.
-#[derive(Drop)]
+#[derive(Clone, Copy)]
 pub struct Place {
     // 1 reclaiming, 2 contents next, 3 header next, 4 only the clock left; any other: none underway
     pub phase: u32,
@@ -38,7 +38,7 @@ impl Place {
 }
 
 // One advance call's answer: "went on", "ticked", or a refusal.
-#[derive(Drop)]
+#[derive(Clone, Copy)]
 pub enum Advance {
     WentOn,
     Ticked,
@@ -46,7 +46,7 @@ pub enum Advance {
 }
 
 // Whether a step ticked, and the place that comes after it.
-#[derive(Drop)]
+#[derive(Clone, Copy)]
 pub struct Moved {
     pub ticked: bool,
     pub place: Place,

@@ -2,7 +2,7 @@
 use reply::Refusal;
 
 // Done, with the number of lines stored, or a refusal.
-#[derive(Drop)]
+#[derive(Clone, Copy)]
 pub enum Sync {
     Done(usize),
     Declined(Refusal),

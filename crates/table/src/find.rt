@@ -14,7 +14,7 @@ use search::Found;
 use transient::sizes::Sizes;
 
 // What a key finds for an operation: a later epoch has it, a live slot holds it, or neither.
-#[derive(Drop)]
+#[derive(Clone, Copy)]
 pub enum Lookup {
     Later,
     Live(usize),

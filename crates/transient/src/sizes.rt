@@ -4,7 +4,7 @@ ghost use Rattle.transient.specs.Store.{table, sizes_of};
 ghost use Rattle.transient.specs.Requires.{Sizable};
 
 // N slots, W words of contents, T threads.
-#[derive(Drop)]
+#[derive(Clone, Copy)]
 pub struct Sizes {
     pub n: usize,
     pub w: usize,

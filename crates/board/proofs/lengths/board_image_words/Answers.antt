@@ -1,0 +1,22 @@
+-- `board_image_words`: each way out is a law.
+use borrow.Author.Rules.{rules}
+use Rattle.board.specs.Exits.{laws}
+use Rattle.board.proofs.lengths.board_image_words.Goals as goal
+
+pub wide-n-requires : goal.wide-n-requires
+wide-n-requires c = search (rules, laws)
+
+pub wide-w-requires : goal.wide-w-requires
+wide-w-requires c = search (rules, laws)
+
+pub sizes_ok-requires : goal.sizes_ok-requires
+sizes_ok-requires c = search (rules, laws)
+
+pub image_words-requires : goal.image_words-requires
+image_words-requires c = search (rules, laws)
+
+pub returns-then-sizes_ok : goal.returns-then-sizes_ok
+returns-then-sizes_ok c = search (rules, laws)
+
+pub returns-else-sizes_ok : goal.returns-else-sizes_ok
+returns-else-sizes_ok c = search (rules, laws)

@@ -1,0 +1,7 @@
+-- `copy_header`: each way out is a law.
+use borrow.Author.Rules.{rules}
+use Rattle.image.specs.Exits.{laws}
+use Rattle.image.proofs.header.copy_header.Goals as goal
+
+pub returns : goal.returns
+returns c = search (rules, laws)

@@ -1,0 +1,46 @@
+-- `header_at`: each way out is a law.
+use borrow.Author.Rules.{rules}
+use Rattle.image.specs.Exits.{laws}
+use Rattle.image.proofs.header.header_at.Goals as goal
+
+pub overflow_mul-b : goal.overflow_mul-b
+overflow_mul-b c = search (rules, laws)
+
+pub overflow_add-b : goal.overflow_add-b
+overflow_add-b c = search (rules, laws)
+
+pub offset_bounds-img-b : goal.offset_bounds-img-b
+offset_bounds-img-b c = search (rules, laws)
+
+pub bounds-img-b : goal.bounds-img-b
+bounds-img-b c = search (rules, laws)
+
+pub overflow_add-result : goal.overflow_add-result
+overflow_add-result c = search (rules, laws)
+
+pub offset_bounds-img-b-2 : goal.offset_bounds-img-b-2
+offset_bounds-img-b-2 c = search (rules, laws)
+
+pub bounds-img-b-2 : goal.bounds-img-b-2
+bounds-img-b-2 c = search (rules, laws)
+
+pub overflow_add-result-2 : goal.overflow_add-result-2
+overflow_add-result-2 c = search (rules, laws)
+
+pub offset_bounds-img-b-3 : goal.offset_bounds-img-b-3
+offset_bounds-img-b-3 c = search (rules, laws)
+
+pub bounds-img-b-3 : goal.bounds-img-b-3
+bounds-img-b-3 c = search (rules, laws)
+
+pub overflow_add-result-3 : goal.overflow_add-result-3
+overflow_add-result-3 c = search (rules, laws)
+
+pub offset_bounds-img-b-4 : goal.offset_bounds-img-b-4
+offset_bounds-img-b-4 c = search (rules, laws)
+
+pub bounds-img-b-4 : goal.bounds-img-b-4
+bounds-img-b-4 c = search (rules, laws)
+
+pub returns : goal.returns
+returns c = search (rules, laws)

@@ -1,0 +1,22 @@
+-- `set_entered`: each way out is a law.
+use borrow.Author.Rules.{rules}
+use Rattle.job_set.specs.Exits.{laws}
+use Rattle.job_set.proofs.set_entered.Goals as goal
+
+pub read_sizes-z-requires : goal.read_sizes-z-requires
+read_sizes-z-requires c = search (rules, laws)
+
+pub wide-requires : goal.wide-requires
+wide-requires c = search (rules, laws)
+
+pub set_sized-requires : goal.set_sized-requires
+set_sized-requires c = search (rules, laws)
+
+pub shape_of-working : goal.shape_of-working
+shape_of-working c = search (rules, laws)
+
+pub shape_of-transient : goal.shape_of-transient
+shape_of-transient c = search (rules, laws)
+
+pub returns : goal.returns
+returns c = search (rules, laws)

@@ -1,0 +1,13 @@
+-- `look_position`: each way out is a law.
+use borrow.Author.Rules.{rules}
+use Rattle.queue_look.specs.Exits.{laws}
+use Rattle.queue_look.proofs.look_position.Goals as goal
+
+pub look_slot-requires : goal.look_slot-requires
+look_slot-requires c = search (rules, laws)
+
+pub reading_position-requires : goal.reading_position-requires
+reading_position-requires c = search (rules, laws)
+
+pub returns : goal.returns
+returns c = search (rules, laws)

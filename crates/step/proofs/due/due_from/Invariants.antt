@@ -1,0 +1,12 @@
+-- `due_from`: a search from p on (`From`), sixteen slots a round.
+use Rattle.search.specs.From.{From}
+use Rattle.step.specs.Step.{due}
+use Rattle.transient.specs.Store.{table}
+use Prim.Native.Nat.{◌-◌}
+use Rattle.step.proofs.due.due_from.Given as goal
+
+abbrev pub invariant-loop-s : goal.invariant-loop-s
+invariant-loop-s l = From (due l.z (table l.working l.transient) l.c) l.z.n l.p l.s
+
+abbrev pub decreases-loop-s : goal.decreases-loop-s
+decreases-loop-s l = l.z.n - l.s

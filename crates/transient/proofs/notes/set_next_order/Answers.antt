@@ -1,0 +1,13 @@
+-- `set_next_order`: each way out is a law.
+use Rattle.std.proofs.Common.{rules}
+use Rattle.transient.specs.Exits.{laws}
+use Rattle.transient.proofs.notes.set_next_order.Goals as goal
+
+pub bounds-transient-3 : goal.bounds-transient-3
+bounds-transient-3 c = search (rules, laws)
+
+pub shape_of-transient : goal.shape_of-transient
+shape_of-transient c = search (rules, laws)
+
+pub returns : goal.returns
+returns c = search (rules, laws)
