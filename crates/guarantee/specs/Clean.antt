@@ -29,8 +29,8 @@ use Rattle.recovery.specs.Requires.{sizes_in}
 use Rattle.recovery.specs.Steps.{survivor-named, survivors-apart}
 use Rattle.crash.specs.Slots.{Value, Slot, Filled, Proper, Shows}
 use Rattle.crash.specs.Steps.{at_rest, Survives, Settled, Start}
-use Rattle.crash.specs.Begin.{start-inv}
-use Rattle.crash.specs.Fifo.{fifo-none}
+use Rattle.crash.proofs.Begin.{start-inv}
+use Rattle.crash.proofs.Fifo.{fifo-none}
 use Rattle.guarantee.specs.Promise.{jobs_of}
 use Rattle.guarantee.specs.View.{entry_of, slot_of, no_slot, view, progress, view_in, view_out, working-name, working-value}
 use Rattle.guarantee.specs.Good.{state_of, Image, Good, start_of}

@@ -15,7 +15,7 @@ use Rattle.write_back.specs.Ways.{back-way}
 use Rattle.crash.specs.Reference.{Jobs}
 use Rattle.crash.specs.Slots.{Slot}
 use Rattle.crash.specs.Steps.{stored}
-use Rattle.crash.specs.Lines.{Copied, copied-inv}
+use Rattle.crash.proofs.Lines.{Copied, copied-inv}
 use Rattle.guarantee.specs.Trace.{Plain}
 use Rattle.guarantee.specs.View.{view, view_in, view_out}
 use Rattle.guarantee.specs.Good.{Image, Good}

@@ -23,7 +23,8 @@ use Rattle.recovery.specs.Completes.{Rebuilt, recovery-bound, recovery-completes
 use Rattle.crash.specs.Reference.{Jobs, jobs_at, Fifo}
 use Rattle.crash.specs.Slots.{Value, Slot, Worded}
 use Rattle.crash.specs.Steps.{Kept, Survives}
-use Rattle.crash.specs.Cut.{CutShows, cut-versions, cut-names, cut-named, cut-jobs}
+use Rattle.crash.specs.Cut.{CutShows}
+use Rattle.crash.proofs.Cut.{cut-versions, cut-names, cut-named, cut-jobs}
 use Rattle.guarantee.specs.Trace.{Plain}
 use Rattle.guarantee.specs.Promise.{jobs_of, Holds, Promise}
 use Rattle.guarantee.specs.View.{entry_of, view, view_in, persistent-name, persistent-value}

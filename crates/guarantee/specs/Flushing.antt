@@ -20,8 +20,8 @@ use Rattle.crash.specs.Table.{Put}
 use Rattle.crash.specs.Reference.{Jobs}
 use Rattle.crash.specs.Slots.{Slot, SameHead, SameLine}
 use Rattle.crash.specs.Steps.{headed, stored}
-use Rattle.crash.specs.Lines.{head-inv, line-inv}
-use Rattle.crash.specs.Places.{passes-inv, half-inv, whole-inv}
+use Rattle.crash.proofs.Lines.{head-inv, line-inv}
+use Rattle.crash.proofs.Places.{passes-inv, half-inv, whole-inv}
 use Rattle.guarantee.specs.Trace.{Plain}
 use Rattle.guarantee.specs.View.{view, view_in}
 use Rattle.guarantee.specs.Good.{Image, Good}

@@ -19,7 +19,7 @@ use Rattle.crash.specs.Table.{Put}
 use Rattle.crash.specs.Reference.{Jobs, Change, jobs_at, Front, Fifo}
 use Rattle.crash.specs.Slots.{Value, Slot, State, Place, Inv}
 use Rattle.crash.specs.Steps.{Operation, Joins}
-use Rattle.crash.specs.Fifo.{fifo-snoc}
+use Rattle.crash.proofs.Fifo.{fifo-snoc}
 use Rattle.guarantee.specs.Trace.{Plain, plain}
 use Rattle.guarantee.specs.View.{entry_of, slot_of, view, progress, view_in, view-put}
 use Rattle.guarantee.specs.Good.{state_of, Image, Opens, Good}

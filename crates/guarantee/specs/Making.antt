@@ -28,7 +28,7 @@ use Rattle.job_new.specs.New.{new_absent, new_job}
 use Rattle.job_new.specs.Stages.{new_at, new_in, new-absent-is, new_looked, new_open, new_sized}
 use Rattle.crash.specs.Reference.{Jobs}
 use Rattle.crash.specs.Slots.{Value, Slot, Filled, Payload}
-use Rattle.crash.specs.New.{new-inv}
+use Rattle.crash.proofs.New.{new-inv}
 use Rattle.guarantee.specs.Trace.{Plain, told_change}
 use Rattle.guarantee.specs.View.{view}
 use Rattle.guarantee.specs.Good.{Good}

@@ -40,7 +40,7 @@ use Rattle.queue_take.specs.Stages.{take_looked, take_open, take_sized}
 use Rattle.crash.specs.Reference.{Jobs}
 use Rattle.crash.specs.Slots.{Slot, Filled}
 use Rattle.crash.specs.Steps.{Foremost}
-use Rattle.crash.specs.Fifo.{front-from}
+use Rattle.crash.proofs.Fifo.{front-from}
 use Rattle.guarantee.specs.Trace.{Plain, told_change, told_append, front_order}
 use Rattle.guarantee.specs.View.{view, view_in}
 use Rattle.guarantee.specs.Good.{state_of, Good}

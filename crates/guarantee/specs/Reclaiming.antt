@@ -27,8 +27,8 @@ use Rattle.crash.specs.Reference.{Jobs}
 use Rattle.crash.specs.Slots.{Slot, Swept}
 use Rattle.crash.specs.Steps.{moved, Reclaim}
 use Rattle.crash.specs.Steps as steps
-use Rattle.crash.specs.Reclaim.{reclaim-inv}
-use Rattle.crash.specs.Places.{looks-inv}
+use Rattle.crash.proofs.Reclaim.{reclaim-inv}
+use Rattle.crash.proofs.Places.{looks-inv}
 use Rattle.guarantee.specs.Trace.{Plain}
 use Rattle.guarantee.specs.View.{view, view_in}
 use Rattle.guarantee.specs.Good.{state_of, Good}

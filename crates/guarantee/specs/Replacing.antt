@@ -33,10 +33,10 @@ use Rattle.crash.specs.Reference.{Jobs}
 use Rattle.crash.specs.Slots.{Value, Entry, Slot, State}
 use Rattle.crash.specs.Steps as steps
 use Rattle.crash.specs.Steps.{entry, Current, Joins, InPlace}
-use Rattle.crash.specs.InPlace.{set-inv}
-use Rattle.crash.specs.Turn.{turn-inv}
-use Rattle.crash.specs.Unmake.{unmake-inv}
-use Rattle.crash.specs.Resave.{resave-inv}
+use Rattle.crash.proofs.InPlace.{set-inv}
+use Rattle.crash.proofs.Turn.{turn-inv}
+use Rattle.crash.proofs.Unmake.{unmake-inv}
+use Rattle.crash.proofs.Resave.{resave-inv}
 use Rattle.guarantee.specs.Trace.{Plain, told_change}
 use Rattle.guarantee.specs.View.{view, slot_of, view_in, working-value}
 use Rattle.guarantee.specs.Good.{state_of, Good}

@@ -10,7 +10,7 @@ use Rattle.acceptance.specs.Accept.{in_range, proper}
 use Rattle.acceptance.specs.Sound.{filled-proper}
 use Rattle.crash.specs.Slots.{Proper, Worded}
 use Rattle.crash.specs.Steps.{Kept}
-use Rattle.crash.specs.OneSlot.{proper-whole}
+use Rattle.crash.proofs.OneSlot.{proper-whole}
 use Rattle.guarantee.specs.View.{entry_of}
 
 -- ---- payload, filled

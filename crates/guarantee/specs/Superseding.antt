@@ -22,7 +22,7 @@ use Rattle.crash.specs.Table.{Put2}
 use Rattle.crash.specs.Reference.{Jobs}
 use Rattle.crash.specs.Slots.{Value, Slot, State, Inv}
 use Rattle.crash.specs.Steps.{entry, filled, retiring, after, Successor, updates, removes, Current, Joins}
-use Rattle.crash.specs.Over.{over-inv}
+use Rattle.crash.proofs.Over.{over-inv}
 use Rattle.guarantee.specs.Trace.{Plain, plain}
 use Rattle.guarantee.specs.View.{entry_of, slot_of, view, view_in, view-put2}
 use Rattle.guarantee.specs.Good.{Good}

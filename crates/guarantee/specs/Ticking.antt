@@ -19,7 +19,7 @@ use Rattle.advance.specs.Stages.{underway}
 use Rattle.crash.specs.Reference.{Jobs}
 use Rattle.crash.specs.Slots.{Swept, Flushed}
 use Rattle.crash.specs.Steps.{ticked}
-use Rattle.crash.specs.Tick.{tick-inv}
+use Rattle.crash.proofs.Tick.{tick-inv}
 use Rattle.guarantee.specs.Trace.{Plain, told_advance}
 use Rattle.guarantee.specs.View.{view, view_in, view_out}
 use Rattle.guarantee.specs.Good.{Image, Good}

@@ -5,7 +5,7 @@ use Rattle.std.proofs.Math.Decide.{ℕ_discrete, dec_le}
 use Rattle.crash.specs.Table.{Every}
 use Rattle.crash.specs.Slots.{Place, State, SameHead, SameLine, Flushed, Underway, Inv}
 use Rattle.crash.specs.Steps.{moved, Looks, Passes}
-use Rattle.crash.specs.OneSlot.{quiet-flushed}
+use Rattle.crash.proofs.OneSlot.{quiet-flushed}
 
 -- what a change of the place owes
 placed-inv : {st : State} {p : Place} → Inv st → Every (Underway st.clock p) st.slots → Inv (moved st st.slots p)

@@ -4,7 +4,7 @@ use Rattle.std.proofs.Common.{inl, inr, arith}
 use Rattle.crash.specs.Table.{Any, every-put, pairwise-put, any-keep, any-case}
 use Rattle.crash.specs.Slots.{Slot, State, Visible, One, Underway, Two, Next, Inv}
 use Rattle.crash.specs.Steps.{moved, Reclaim}
-use Rattle.crash.specs.OneSlot.{slotty, old-waits, quiet-flushed}
+use Rattle.crash.proofs.OneSlot.{slotty, old-waits, quiet-flushed}
 
 module _ {s : ℕ} {st : State} {g : ℕ → Slot} (i : Inv st) (t : Reclaim s st g) where
   -- it is the next version of no slot: that would be retired before c - 2

@@ -4,12 +4,12 @@ use Rattle.std.proofs.Common.{sym, inl, inr, arith}
 use Rattle.std.proofs.Math.Option.{Option, some}
 use Rattle.image.specs.declared.name.Name.{Name}
 use Rattle.crash.specs.Table.{Any, every-put2, pairwise-put2, any-first, any-second, any-keep2, any-case2}
-use Rattle.crash.specs.Laws.{late-snoc, shown-step}
+use Rattle.crash.proofs.Laws.{late-snoc, shown-step}
 use Rattle.crash.specs.Slots.{Value, Entry, Slot, State, Visible, Sees, Shows, One, Underway, Two, Next, Inv}
 use Rattle.crash.specs.Steps.{entry, filled, retiring, after, Successor, updates, removes, Over}
-use Rattle.crash.specs.OneSlot.{slotty}
-use Rattle.crash.specs.Versions.{current-newest, current-lone}
-use Rattle.crash.specs.Write.{own-unseen, Tells, tells-value, tells-nothing, Write, Behind, write-one, write-underway, write-tells, write_two}
+use Rattle.crash.proofs.OneSlot.{slotty}
+use Rattle.crash.proofs.Versions.{current-newest, current-lone}
+use Rattle.crash.proofs.Write.{own-unseen, Tells, tells-value, tells-nothing, Write, Behind, write-one, write-underway, write-tells, write_two}
 
 -- the kind and what is left, of a set and of a delete
 outcome-kind : {kind : ℕ} {v : Value} {u : Option Value} → Successor kind v u → (2 ≤ kind) × (kind ≤ 3)

@@ -7,7 +7,7 @@ use Rattle.image.specs.declared.name.Name.{Name}
 use Rattle.crash.specs.Reference.{Jobs, jobs_at}
 use Rattle.crash.specs.Slots.{Value, State, Visible, Shows, One, Inv}
 use Rattle.crash.specs.Steps.{Start}
-use Rattle.crash.specs.OneSlot.{slotty, proper-worded, old-waits, rest-underway}
+use Rattle.crash.proofs.OneSlot.{slotty, proper-worded, old-waits, rest-underway}
 
 -- with no change the jobs are those of the start
 no_change : (e : ℕ) (start : Jobs) → jobs_at e start [] ≡ start

@@ -6,8 +6,8 @@ use Rattle.image.specs.Torn.{Mixed}
 use Rattle.crash.specs.Table.{Put, every-put}
 use Rattle.crash.specs.Slots.{Entry, Slot, State, head_of, SameHead, SameLine, Worded, Waits, One, Underway, Inv}
 use Rattle.crash.specs.Steps.{stored, moved, Head, Line}
-use Rattle.crash.specs.OneSlot.{proper-worded, proper-filled}
-use Rattle.crash.specs.Dressed.{Dressed, dressed-two, dressed-next, dressed-shows}
+use Rattle.crash.proofs.OneSlot.{proper-worded, proper-filled}
+use Rattle.crash.proofs.Dressed.{Dressed, dressed-two, dressed-next, dressed-shows}
 
 -- x is p with words copied from w: each word of its header is p's or w's, and its contents are theirs where these agree
 pub record Copied (x w p : Entry) : Type 0 where

@@ -4,9 +4,9 @@ use Rattle.std.proofs.Common.{sym, arith}
 use Rattle.std.proofs.Math.Option.{none}
 use Rattle.crash.specs.Slots.{Slot, State, Filled, Inv}
 use Rattle.crash.specs.Steps.{after, Unmake}
-use Rattle.crash.specs.InPlace.{in-place-inv}
-use Rattle.crash.specs.Versions.{current-newest}
-use Rattle.crash.specs.Write.{tells-nothing}
+use Rattle.crash.proofs.InPlace.{in-place-inv}
+use Rattle.crash.proofs.Versions.{current-newest}
+use Rattle.crash.proofs.Write.{tells-nothing}
 
 module _ {e r now before : ℕ} {st : State} {g : ℕ → Slot} (i : Inv st) (t : Unmake e r now before st g) where
   -- a current ALLOC is both the newest of its uid and the first

@@ -5,10 +5,10 @@ use Rattle.std.proofs.Common.{ap, inl, arith}
 use Rattle.std.proofs.Math.Option.{some}
 use Rattle.std.proofs.Math.Decide.{ℕ_discrete}
 use Rattle.image.specs.declared.name.Name.{Name}
-use Rattle.crash.specs.Laws.{late-snoc, shown-step}
+use Rattle.crash.proofs.Laws.{late-snoc, shown-step}
 use Rattle.crash.specs.Slots.{Value, Entry, State, Shows, Inv}
 use Rattle.crash.specs.Steps.{after, Resave}
-use Rattle.crash.specs.Versions.{current-lone}
+use Rattle.crash.proofs.Versions.{current-lone}
 
 module _ {e r : ℕ} {st : State} (i : Inv st) (t : Resave e r st) where
   abbrev held : Entry

@@ -5,9 +5,9 @@ use Rattle.std.proofs.Math.Option.{some}
 use Rattle.image.specs.declared.name.Name.{Name}
 use Rattle.crash.specs.Slots.{Value, Slot, State, Payload, Inv}
 use Rattle.crash.specs.Steps.{entry, filled, after, New}
-use Rattle.crash.specs.OneSlot.{slotty}
-use Rattle.crash.specs.Versions.{uid-name}
-use Rattle.crash.specs.Write.{Write, Behind, tells-value, write-inv}
+use Rattle.crash.proofs.OneSlot.{slotty}
+use Rattle.crash.proofs.Versions.{uid-name}
+use Rattle.crash.proofs.Write.{Write, Behind, tells-value, write-inv}
 
 module _ {e s order : ℕ} {k : Name} {v : Value} {now before : ℕ} {st : State} {g : ℕ → Slot} (i : Inv st) (t : New e s order k v now before st g) where
   -- a payload of the name gave way to a version that is not later than e

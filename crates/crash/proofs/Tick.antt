@@ -8,9 +8,9 @@ use Rattle.image.specs.declared.name.Name.{Name}
 use Rattle.crash.specs.Reference.{jobs_at}
 use Rattle.crash.specs.Slots.{Value, Entry, Slot, State, Proper, Worded, Visible, Shows, One, Inv}
 use Rattle.crash.specs.Steps.{ticked, ticked_state, Tick}
-use Rattle.crash.specs.Laws.{jobs-agree}
-use Rattle.crash.specs.OneSlot.{slotty, rest-underway}
-use Rattle.crash.specs.Dressed.{Dressed, dressed-two, dressed-next, dressed-shows}
+use Rattle.crash.proofs.Laws.{jobs-agree}
+use Rattle.crash.proofs.OneSlot.{slotty, rest-underway}
+use Rattle.crash.proofs.Dressed.{Dressed, dressed-two, dressed-next, dressed-shows}
 
 -- a proper entry stays proper
 proper-suc : {c : ℕ} {x : Entry} → Proper c x → Proper (suc c) x

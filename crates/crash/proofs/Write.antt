@@ -6,10 +6,10 @@ use Rattle.image.specs.Layout.{queue_board}
 use Rattle.image.specs.declared.name.Name.{Name}
 use Rattle.image.specs.Name.{Named}
 use Rattle.crash.specs.Table.{Put, Any, every-put, pairwise-put, any-new, any-keep, any-case}
-use Rattle.crash.specs.Laws.{late-snoc, shown-step}
+use Rattle.crash.proofs.Laws.{late-snoc, shown-step}
 use Rattle.crash.specs.Slots.{Value, Entry, Slot, State, Filled, Payload, Proper, Visible, Sees, Shows, One, Underway, Kin, Two, Next, Inv}
 use Rattle.crash.specs.Steps.{after, Operation, Joins}
-use Rattle.crash.specs.OneSlot.{slotty, proper-filled}
+use Rattle.crash.proofs.OneSlot.{slotty, proper-filled}
 
 -- free, or of this epoch and job
 pub record Own (e : ℕ) (k : Name) (x : Entry) : Type 0 where

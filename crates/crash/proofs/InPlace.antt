@@ -4,8 +4,8 @@ use Rattle.std.proofs.Math.Option.{Option, some}
 use Rattle.std.proofs.Common.{arith}
 use Rattle.crash.specs.Slots.{Value, Entry, Slot, State, Proper, Inv}
 use Rattle.crash.specs.Steps.{entry, rewritten, after, revalued, InPlace}
-use Rattle.crash.specs.Versions.{current-newest, current-lone}
-use Rattle.crash.specs.Write.{Own, Tells, tells-value, Newer, Heir, Write, write-inv}
+use Rattle.crash.proofs.Versions.{current-newest, current-lone}
+use Rattle.crash.proofs.Write.{Own, Tells, tells-value, Newer, Heir, Write, write-inv}
 
 -- ---- the entry x takes the place of the version
 module _ {x : Entry} {e r now before : ℕ} {st : State} {g : ℕ → Slot} (i : Inv st) (t : InPlace x e r now before st g) where

@@ -4,8 +4,8 @@ use Rattle.std.proofs.Math.Option.{none}
 use Rattle.std.proofs.Common.{arith}
 use Rattle.crash.specs.Slots.{Slot, State, Inv}
 use Rattle.crash.specs.Steps.{after, turned, InPlace}
-use Rattle.crash.specs.InPlace.{kept-uid-inv}
-use Rattle.crash.specs.Write.{tells-nothing}
+use Rattle.crash.proofs.InPlace.{kept-uid-inv}
+use Rattle.crash.proofs.Write.{tells-nothing}
 
 pub turn-inv : {e r now before : ℕ} {st : State} {g : ℕ → Slot} → Inv st → InPlace (turned (st.slots r).working) e r now before st g
     → Inv (after st g st.uid st.order e (st.slots r).working.name none)

@@ -8,10 +8,10 @@ use Rattle.image.specs.Layout.{queue_board}
 use Rattle.image.specs.declared.name.Name.{Name}
 use Rattle.image.specs.Name.{entry_name, names-meet, key-same}
 use Rattle.crash.specs.Reference.{Jobs, Change, jobs_at, Front, Fifo}
-use Rattle.crash.specs.Laws.{jobs-agree}
+use Rattle.crash.proofs.Laws.{jobs-agree}
 use Rattle.crash.specs.Slots.{Value, State, Visible, Inv}
 use Rattle.crash.specs.Steps.{Foremost}
-use Rattle.crash.specs.Versions.{uid-name}
+use Rattle.crash.proofs.Versions.{uid-name}
 
 -- ---- lists split at an element
 module _ {A : Type 0} where
