@@ -15,10 +15,10 @@ use Rattle.job_batch.specs.Batch.{change_at, kind_of, job_of, change_job, change
 use Rattle.job_batch.specs.Ways.{kind-way, next_way, batch-way}
 use Rattle.crash.specs.Reference.{Jobs}
 use Rattle.guarantee.specs.Trace.{Plain, told_change, told_changes}
-use Rattle.guarantee.specs.Good.{Good}
-use Rattle.guarantee.specs.Changing.{sizes-is}
-use Rattle.guarantee.specs.Making.{new-good}
-use Rattle.guarantee.specs.Replacing.{set-good, delete-good}
+use Rattle.guarantee.proofs.Good.{Good}
+use Rattle.guarantee.proofs.Changing.{sizes-is}
+use Rattle.guarantee.proofs.Making.{new-good}
+use Rattle.guarantee.proofs.Replacing.{set-good, delete-good}
 
 module _ (sz : Sizes) (start : Jobs) (thread : ℕ) where
   -- what a change leaves, with what the reference map hears of it

@@ -43,14 +43,14 @@ use Rattle.crash.specs.Steps.{Foremost}
 use Rattle.crash.proofs.Fifo.{front-from}
 use Rattle.guarantee.specs.Trace.{Plain, told_change, told_append, front_order}
 use Rattle.guarantee.specs.View.{view, view_in}
-use Rattle.guarantee.specs.Good.{state_of, Good}
+use Rattle.guarantee.proofs.Good.{state_of, Good}
 use Rattle.guarantee.specs.Notes.{Joined, order-joins}
 use Rattle.guarantee.specs.Says.{payload-of}
-use Rattle.guarantee.specs.Frame.{operation-of}
-use Rattle.guarantee.specs.Lookups.{Lives, filled_in, slot-name, filled_at, payload-at, room_says}
-use Rattle.guarantee.specs.Changing.{Fine, fine-refused, fine-declines, fine-way, fine-call, sizes-is, last-below, order-low}
-use Rattle.guarantee.specs.Making.{Fresh, made-good, made-notes}
-use Rattle.guarantee.specs.Replacing.{gone-fine}
+use Rattle.guarantee.proofs.Frame.{operation-of}
+use Rattle.guarantee.proofs.Lookups.{Lives, filled_in, slot-name, filled_at, payload-at, room_says}
+use Rattle.guarantee.proofs.Changing.{Fine, fine-refused, fine-declines, fine-way, fine-call, sizes-is, last-below, order-low}
+use Rattle.guarantee.proofs.Making.{Fresh, made-good, made-notes}
+use Rattle.guarantee.proofs.Replacing.{gone-fine}
 
 -- ---- what the look-ups of the queue say of the table
 module _ {sz : Sizes} {start : Jobs} {st : Store} {p : Plain} (g : Good sz start st p) where

@@ -28,10 +28,10 @@ use Rattle.crash.proofs.Cut.{cut-versions, cut-names, cut-named, cut-jobs}
 use Rattle.guarantee.specs.Trace.{Plain}
 use Rattle.guarantee.specs.Promise.{jobs_of, Holds, Promise}
 use Rattle.guarantee.specs.View.{entry_of, view, view_in, persistent-name, persistent-value}
-use Rattle.guarantee.specs.Good.{Good}
+use Rattle.guarantee.proofs.Good.{Good}
 use Rattle.guarantee.specs.Says.{worded-proper}
 use Rattle.guarantee.specs.Surviving.{kept_at, at-survives, survives-at}
-use Rattle.guarantee.specs.JobsOf.{Survivor, option-same, jobs-of, same-jobs}
+use Rattle.guarantee.proofs.JobsOf.{Survivor, option-same, jobs-of, same-jobs}
 
 -- recovery accepts the image, which has the reference map's jobs at the clock less 2
 pub record Cuts (start : Jobs) (l : List ℕ) (p : Plain) : Type 0 where

@@ -20,7 +20,7 @@ use Rattle.jobs.specs.Laws.{declines-way, way-operating}
 use Rattle.crash.specs.Reference.{Jobs}
 use Rattle.crash.specs.Slots.{Value}
 use Rattle.guarantee.specs.Trace.{Plain, told_change}
-use Rattle.guarantee.specs.Good.{Good}
+use Rattle.guarantee.proofs.Good.{Good}
 
 -- ---- the shapes
 -- the way in: 5, 7 and 8, or the open epoch

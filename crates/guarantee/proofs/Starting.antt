@@ -22,8 +22,8 @@ use Rattle.recovery.specs.Requires.{uid_of, finished}
 use Rattle.recovery.specs.Steps.{nonzero_at, done-survivors}
 use Rattle.recovery.specs.Notes.{recovered-long, recovered-phase, recovered-open, recovered-retired, recovered-uid, recovered-order, recovered-indexed}
 use Rattle.guarantee.specs.Promise.{Started, fresh, recovered}
-use Rattle.guarantee.specs.Clean.{Begins, clean-good}
-use Rattle.guarantee.specs.Fresh.{fresh-good, formats}
+use Rattle.guarantee.proofs.Clean.{Begins, clean-good}
+use Rattle.guarantee.proofs.Fresh.{fresh-good, formats}
 
 -- ---- a recovery that is done
 recovered-good : (l : List ℕ) (len : ℕ) → image_check l ≡ Accepted → next_freed l (slots_of l) ≡ Nothing → threads_ok len (slots_of l) ≡ true

@@ -22,9 +22,9 @@ use Rattle.advance.specs.Stages.{underway}
 use Rattle.crash.specs.Reference.{Jobs}
 use Rattle.guarantee.specs.Trace.{Plain, plain, told_begin, told_end}
 use Rattle.guarantee.specs.View.{view, same_view}
-use Rattle.guarantee.specs.Indexing.{kept-indexed}
-use Rattle.guarantee.specs.Good.{Opens, Good}
-use Rattle.guarantee.specs.Changing.{way-way, call-way, sizes-is}
+use Rattle.guarantee.proofs.Indexing.{kept-indexed}
+use Rattle.guarantee.proofs.Good.{Opens, Good}
+use Rattle.guarantee.proofs.Changing.{way-way, call-way, sizes-is}
 
 -- ---- an open epoch set
 module _ {sz : Sizes} {start : Jobs} {wk l tr : List ℕ} {p : Plain} (thread e : ℕ) (ended' : List ℕ) (g : Good sz start (store wk l tr) p) (within : thread < sz.t)

@@ -39,14 +39,14 @@ use Rattle.crash.proofs.Unmake.{unmake-inv}
 use Rattle.crash.proofs.Resave.{resave-inv}
 use Rattle.guarantee.specs.Trace.{Plain, told_change}
 use Rattle.guarantee.specs.View.{view, slot_of, view_in, working-value}
-use Rattle.guarantee.specs.Good.{state_of, Good}
+use Rattle.guarantee.proofs.Good.{state_of, Good}
 use Rattle.guarantee.specs.Notes.{waiting-joins, freed-joins}
-use Rattle.guarantee.specs.Indexing.{rewritten-stays, turned-stays, freed-stays}
-use Rattle.guarantee.specs.Images.{wrote-image, header-wrote, value-wrote}
-use Rattle.guarantee.specs.Frame.{good-shaped, operation-of, change-put, change-joins, good-change, Owes, fifo-after, value-owes, job-owes, row-epoch}
-use Rattle.guarantee.specs.Lookups.{Holding, Lives, live-says, live_of, no-later-of, lives-called}
-use Rattle.guarantee.specs.Changing.{Fine, fine-refused, fine-way, fine-call, last-below}
-use Rattle.guarantee.specs.Superseding.{super-fine}
+use Rattle.guarantee.proofs.Indexing.{rewritten-stays, turned-stays, freed-stays}
+use Rattle.guarantee.proofs.Images.{wrote-image, header-wrote, value-wrote}
+use Rattle.guarantee.proofs.Frame.{good-shaped, operation-of, change-put, change-joins, good-change, Owes, fifo-after, value-owes, job-owes, row-epoch}
+use Rattle.guarantee.proofs.Lookups.{Holding, Lives, live-says, live_of, no-later-of, lives-called}
+use Rattle.guarantee.proofs.Changing.{Fine, fine-refused, fine-way, fine-call, last-below}
+use Rattle.guarantee.proofs.Superseding.{super-fine}
 
 -- ---- in place, with the entry, the retirement and the name as the call has them
 in-place-as : {x y : Entry} {e r now before rr : ℕ} {st : State} {f : ℕ → Slot} → x ≡ y → rr ≡ (st.slots r).retired → Current e r st

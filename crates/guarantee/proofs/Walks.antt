@@ -39,9 +39,9 @@ use Rattle.job_read.specs.Read.{read_sized, read_job}
 use Rattle.job_read.specs.Stages.{read_looked}
 use Rattle.guarantee.specs.Trace.{Call, Moment, moments}
 use Rattle.guarantee.specs.Promise.{Started}
-use Rattle.guarantee.specs.Changing.{sizes-is}
-use Rattle.guarantee.specs.StaysIndexed.{Right, change-right}
-use Rattle.guarantee.specs.Running.{moments-good}
+use Rattle.guarantee.proofs.Changing.{sizes-is}
+use Rattle.guarantee.proofs.StaysIndexed.{Right, change-right}
+use Rattle.guarantee.proofs.Running.{moments-good}
 
 -- ---- the calls by a walk
 -- as `on_job`, but for the look-up

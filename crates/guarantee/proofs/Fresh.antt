@@ -19,8 +19,8 @@ use Rattle.acceptance.specs.Requires.{nameless}
 use Rattle.acceptance.specs.Sound.{says-accepted}
 use Rattle.format.specs.Format.{fresh_image, format}
 use Rattle.format.specs.Requires.{format_fits, fresh_store}
-use Rattle.guarantee.specs.Indexing.{freed-unfilled}
-use Rattle.guarantee.specs.Clean.{free-blank, Begins, blank-clean, survivor-kept, on-survives, free-proper, clean-good}
+use Rattle.guarantee.proofs.Indexing.{freed-unfilled}
+use Rattle.guarantee.proofs.Clean.{free-blank, Begins, blank-clean, survivor-kept, on-survives, free-proper, clean-good}
 
 module _ (n w : ℕ) (sizes : InRange n w) where
   abbrev image : List ℕ

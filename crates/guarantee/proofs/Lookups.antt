@@ -30,7 +30,7 @@ use Rattle.crash.specs.Reference.{Jobs}
 use Rattle.crash.specs.Slots.{Slot, Filled, Payload, Proper}
 use Rattle.guarantee.specs.Trace.{Plain}
 use Rattle.guarantee.specs.View.{entry_of, view, view_in, view_out, working-name}
-use Rattle.guarantee.specs.Good.{Good}
+use Rattle.guarantee.proofs.Good.{Good}
 use Rattle.guarantee.specs.Says.{payload-of, proper-filled, proper-payload}
 
 -- ---- what a look-up says

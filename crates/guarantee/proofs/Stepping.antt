@@ -23,9 +23,9 @@ use Rattle.crash.specs.Slots.{Place, Inv}
 use Rattle.crash.specs.Steps.{at_rest, moved}
 use Rattle.guarantee.specs.Trace.{Plain}
 use Rattle.guarantee.specs.View.{entry_of, view, progress, view-put}
-use Rattle.guarantee.specs.Good.{state_of, Image, Good}
-use Rattle.guarantee.specs.Indexing.{kept-indexed}
-use Rattle.guarantee.specs.Images.{Wrote}
+use Rattle.guarantee.proofs.Good.{state_of, Image, Good}
+use Rattle.guarantee.proofs.Indexing.{kept-indexed}
+use Rattle.guarantee.proofs.Images.{Wrote}
 
 -- ---- places
 abbrev pub looked_to : ℕ → Place

@@ -44,9 +44,9 @@ use Rattle.job_delete.specs.Stages.{covered, delete-at-is, delete_looked, delete
 use Rattle.job_delete.specs.Again.{delete-kept}
 use Rattle.job_batch.specs.Batch.{kind_of, job_of, change_job}
 use Rattle.job_batch.specs.Ways.{kind-way}
-use Rattle.guarantee.specs.Indexing.{Stays, made-filled, later-filled, kept-indexed, took, rewritten-stays, turned-stays, freed-stays}
-use Rattle.guarantee.specs.Lookups.{live-says, room_says}
-use Rattle.guarantee.specs.Changing.{way-way, call-way}
+use Rattle.guarantee.proofs.Indexing.{Stays, made-filled, later-filled, kept-indexed, took, rewritten-stays, turned-stays, freed-stays}
+use Rattle.guarantee.proofs.Lookups.{live-says, room_says}
+use Rattle.guarantee.proofs.Changing.{way-way, call-way}
 
 -- ---- a call's part within an operation of epoch e
 module _ {wk tr : List ℕ} {z : Sizes} (y : Entered wk tr z) (i : Indexed z wk tr) (e : ℕ) (begun : e ≢ 0) where

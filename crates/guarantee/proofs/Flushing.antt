@@ -24,11 +24,11 @@ use Rattle.crash.proofs.Lines.{head-inv, line-inv}
 use Rattle.crash.proofs.Places.{passes-inv, half-inv, whole-inv}
 use Rattle.guarantee.specs.Trace.{Plain}
 use Rattle.guarantee.specs.View.{view, view_in}
-use Rattle.guarantee.specs.Good.{Image, Good}
-use Rattle.guarantee.specs.Images.{Wrote, wrote-image, header-wrote, contents-wrote, unwrote}
-use Rattle.guarantee.specs.Frame.{flag_off}
-use Rattle.guarantee.specs.Stepping.{flushed_to, half_at, progress-header, passing-flushed, Noted, noted-place, step-put, Reached, Ready, went-good}
-use Rattle.guarantee.specs.Ticking.{Owed, tick-good}
+use Rattle.guarantee.proofs.Good.{Image, Good}
+use Rattle.guarantee.proofs.Images.{Wrote, wrote-image, header-wrote, contents-wrote, unwrote}
+use Rattle.guarantee.proofs.Frame.{flag_off}
+use Rattle.guarantee.proofs.Stepping.{flushed_to, half_at, progress-header, passing-flushed, Noted, noted-place, step-put, Reached, Ready, went-good}
+use Rattle.guarantee.proofs.Ticking.{Owed, tick-good}
 
 -- ---- a line of slot s
 module _ {sz : Sizes} {start : Jobs} {st : Store} {p : Plain} (g : Good sz start st p) {s : ℕ} (k : s < sz.n) where

@@ -10,7 +10,7 @@ use Rattle.transient.specs.declared.sizes.Sizes.{Sizes}
 use Rattle.table.specs.Fill.{filled_slot}
 use Rattle.table.specs.Requires.{set_value}
 use Rattle.table.specs.Laws.{length-filled, front-filled, header-filled, header-filled-other, contents-filled, contents-filled-other, value-is-contents}
-use Rattle.guarantee.specs.Good.{Image}
+use Rattle.guarantee.proofs.Good.{Image}
 
 pub record Wrote (l l' : List ℕ) (sz : Sizes) (s : ℕ) (h : Header) (words : List ℕ) : Type 0 where
   pub long : length l' ≡ length l

@@ -25,7 +25,7 @@ use Rattle.table.specs.Laws.{Called}
 use Rattle.job_set.specs.Stages.{rewritten}
 use Rattle.job_delete.specs.Stages.{freed_at, turned}
 use Rattle.guarantee.specs.Notes.{joined-joins}
-use Rattle.guarantee.specs.Images.{Wrote, filled-wrote, header-wrote, value-wrote}
+use Rattle.guarantee.proofs.Images.{Wrote, filled-wrote, header-wrote, value-wrote}
 
 -- ---- headers: what is free is not filled, and what a call writes is
 free-unfilled : (wk : List ℕ) (s : ℕ) → free_at wk s ≡ true → is_filled (header wk s) ≡ false

@@ -27,12 +27,12 @@ use Rattle.crash.specs.Reference.{Jobs}
 use Rattle.crash.specs.Slots.{Place}
 use Rattle.guarantee.specs.Trace.{Plain, told_advance}
 use Rattle.guarantee.specs.View.{progress}
-use Rattle.guarantee.specs.Good.{Good}
-use Rattle.guarantee.specs.Changing.{sizes-is}
-use Rattle.guarantee.specs.Stepping.{progress-reclaim, progress-contents, progress-header, progress-clock, progress-none, Reached, Ready}
-use Rattle.guarantee.specs.Ticking.{Owed, tick-good}
-use Rattle.guarantee.specs.Flushing.{flush-good, head-good}
-use Rattle.guarantee.specs.Reclaiming.{reclaim-good}
+use Rattle.guarantee.proofs.Good.{Good}
+use Rattle.guarantee.proofs.Changing.{sizes-is}
+use Rattle.guarantee.proofs.Stepping.{progress-reclaim, progress-contents, progress-header, progress-clock, progress-none, Reached, Ready}
+use Rattle.guarantee.proofs.Ticking.{Owed, tick-good}
+use Rattle.guarantee.proofs.Flushing.{flush-good, head-good}
+use Rattle.guarantee.proofs.Reclaiming.{reclaim-good}
 
 -- ---- one step, by the phase
 module _ {sz : Sizes} {start : Jobs} {st : Store} {p : Plain} (y : Ready sz start st p) (k : note place_at st.transient < sz.n) where

@@ -22,8 +22,8 @@ use Rattle.crash.specs.Steps.{ticked}
 use Rattle.crash.proofs.Tick.{tick-inv}
 use Rattle.guarantee.specs.Trace.{Plain, told_advance}
 use Rattle.guarantee.specs.View.{view, view_in, view_out}
-use Rattle.guarantee.specs.Good.{Image, Good}
-use Rattle.guarantee.specs.Stepping.{flushed_to, progress-idle, Reached, Ready}
+use Rattle.guarantee.proofs.Good.{Image, Good}
+use Rattle.guarantee.proofs.Stepping.{flushed_to, progress-idle, Reached, Ready}
 
 -- what a step owes: its store is good beside what the reference map makes of its reply
 abbrev pub Owed : Sizes → Jobs → Plain → Stepped → Type 0

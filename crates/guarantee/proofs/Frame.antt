@@ -22,9 +22,9 @@ use Rattle.crash.specs.Steps.{Operation, Joins}
 use Rattle.crash.proofs.Fifo.{fifo-snoc}
 use Rattle.guarantee.specs.Trace.{Plain, plain}
 use Rattle.guarantee.specs.View.{entry_of, slot_of, view, progress, view_in, view-put}
-use Rattle.guarantee.specs.Good.{state_of, Image, Opens, Good}
+use Rattle.guarantee.proofs.Good.{state_of, Image, Opens, Good}
 use Rattle.guarantee.specs.Notes.{Joined}
-use Rattle.guarantee.specs.Images.{Wrote}
+use Rattle.guarantee.proofs.Images.{Wrote}
 
 -- ---- flags
 pub flag_up : (a b : Bool) → (a ≡ true → b ≡ true) → flag a ≤ flag b

@@ -31,13 +31,13 @@ use Rattle.crash.proofs.Reclaim.{reclaim-inv}
 use Rattle.crash.proofs.Places.{looks-inv}
 use Rattle.guarantee.specs.Trace.{Plain}
 use Rattle.guarantee.specs.View.{view, view_in}
-use Rattle.guarantee.specs.Good.{state_of, Good}
-use Rattle.guarantee.specs.Indexing.{freed-unfilled, reclaimed-indexed}
-use Rattle.guarantee.specs.Images.{Wrote, wrote-image, header-wrote}
-use Rattle.guarantee.specs.Lookups.{filled_at, payload-at}
-use Rattle.guarantee.specs.Stepping.{looked_to, passing-looked, Noted, noted-cleared, step-put, Reached, Ready, went-good}
-use Rattle.guarantee.specs.Ticking.{Owed}
-use Rattle.guarantee.specs.Flushing.{flush-good}
+use Rattle.guarantee.proofs.Good.{state_of, Good}
+use Rattle.guarantee.proofs.Indexing.{freed-unfilled, reclaimed-indexed}
+use Rattle.guarantee.proofs.Images.{Wrote, wrote-image, header-wrote}
+use Rattle.guarantee.proofs.Lookups.{filled_at, payload-at}
+use Rattle.guarantee.proofs.Stepping.{looked_to, passing-looked, Noted, noted-cleared, step-put, Reached, Ready, went-good}
+use Rattle.guarantee.proofs.Ticking.{Owed}
+use Rattle.guarantee.proofs.Flushing.{flush-good}
 
 or-either : (a b : Bool) → a || b ≡ true → (a ≡ true) ⊎ (b ≡ true)
 or-either true b h = inl refl

@@ -31,13 +31,13 @@ use Rattle.crash.specs.Slots.{Value, Slot, Filled, Payload}
 use Rattle.crash.proofs.New.{new-inv}
 use Rattle.guarantee.specs.Trace.{Plain, told_change}
 use Rattle.guarantee.specs.View.{view}
-use Rattle.guarantee.specs.Good.{Good}
+use Rattle.guarantee.proofs.Good.{Good}
 use Rattle.guarantee.specs.Notes.{Joined, made-joins}
-use Rattle.guarantee.specs.Images.{wrote-image, filled-wrote}
-use Rattle.guarantee.specs.Indexing.{made-filled, kept-indexed, took}
-use Rattle.guarantee.specs.Frame.{good-shaped, operation-of, change-put, change-joins, good-change, row-epoch, fifo-after, value-owes, job-owes}
-use Rattle.guarantee.specs.Lookups.{Missing, absent-says, room_says, free-says, no-later-of, no-live-of}
-use Rattle.guarantee.specs.Changing.{Fine, fine-refused, fine-declines, fine-way, fine-call, last-below}
+use Rattle.guarantee.proofs.Images.{wrote-image, filled-wrote}
+use Rattle.guarantee.proofs.Indexing.{made-filled, kept-indexed, took}
+use Rattle.guarantee.proofs.Frame.{good-shaped, operation-of, change-put, change-joins, good-change, row-epoch, fifo-after, value-owes, job-owes}
+use Rattle.guarantee.proofs.Lookups.{Missing, absent-says, room_says, free-says, no-later-of, no-live-of}
+use Rattle.guarantee.proofs.Changing.{Fine, fine-refused, fine-declines, fine-way, fine-call, last-below}
 
 -- ---- a first version
 -- a name to give: nothing live and nothing of a later epoch has it, and `x` is the next order number after it

@@ -19,15 +19,15 @@ use Rattle.sync.specs.Sync.{sync_check, by_reply}
 use Rattle.crash.specs.Reference.{Jobs}
 use Rattle.guarantee.specs.Trace.{Call, begins, ends, news, sets, deletes, batches, reads, appends, takes, looks, advances, syncs, writes_back, Plain, plain, told_advance, Moment, Trace, stay, one, followed, after_advance, after_word, after_words, syncing, through, run, moments}
 use Rattle.guarantee.specs.Promise.{jobs_of, Started}
-use Rattle.guarantee.specs.Good.{Good, start_of}
-use Rattle.guarantee.specs.Opening.{begin-good, end-good}
-use Rattle.guarantee.specs.Making.{new-good}
-use Rattle.guarantee.specs.Replacing.{set-good, delete-good}
-use Rattle.guarantee.specs.Batching.{batch-good}
-use Rattle.guarantee.specs.Queueing.{append-good, take-good}
-use Rattle.guarantee.specs.Copying.{write-back-good}
-use Rattle.guarantee.specs.Advancing.{advance-good}
-use Rattle.guarantee.specs.Starting.{start-good}
+use Rattle.guarantee.proofs.Good.{Good, start_of}
+use Rattle.guarantee.proofs.Opening.{begin-good, end-good}
+use Rattle.guarantee.proofs.Making.{new-good}
+use Rattle.guarantee.proofs.Replacing.{set-good, delete-good}
+use Rattle.guarantee.proofs.Batching.{batch-good}
+use Rattle.guarantee.proofs.Queueing.{append-good, take-good}
+use Rattle.guarantee.proofs.Copying.{write-back-good}
+use Rattle.guarantee.proofs.Advancing.{advance-good}
+use Rattle.guarantee.proofs.Starting.{start-good}
 
 module _ (sz : Sizes) (start : Jobs) where
   abbrev pub GoodAt : Moment → Type 0

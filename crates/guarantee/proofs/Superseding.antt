@@ -25,13 +25,13 @@ use Rattle.crash.specs.Steps.{entry, filled, retiring, after, Successor, updates
 use Rattle.crash.proofs.Over.{over-inv}
 use Rattle.guarantee.specs.Trace.{Plain, plain}
 use Rattle.guarantee.specs.View.{entry_of, slot_of, view, view_in, view-put2}
-use Rattle.guarantee.specs.Good.{Good}
+use Rattle.guarantee.proofs.Good.{Good}
 use Rattle.guarantee.specs.Notes.{Joined, taken-joins}
-use Rattle.guarantee.specs.Images.{Wrote, wrote-image, filled-wrote}
-use Rattle.guarantee.specs.Frame.{good-shaped, operation-of, change-joins, good-change, Owes, fifo-after, row-epoch}
-use Rattle.guarantee.specs.Indexing.{later-filled, kept-indexed, took}
-use Rattle.guarantee.specs.Lookups.{Lives, lives-called, room_says, free-says}
-use Rattle.guarantee.specs.Changing.{Fine, fine-refused}
+use Rattle.guarantee.proofs.Images.{Wrote, wrote-image, filled-wrote}
+use Rattle.guarantee.proofs.Frame.{good-shaped, operation-of, change-joins, good-change, Owes, fifo-after, row-epoch}
+use Rattle.guarantee.proofs.Indexing.{later-filled, kept-indexed, took}
+use Rattle.guarantee.proofs.Lookups.{Lives, lives-called, room_says, free-says}
+use Rattle.guarantee.proofs.Changing.{Fine, fine-refused}
 
 module _ {sz : Sizes} {start : Jobs} {st : Store} {p : Plain} (g : Good sz start st p)
     {wk' tr' : List ℕ} {e f s u x : ℕ} {h : Header} {words : List ℕ} (a : Wrote st.working wk' sz f h words) (j : Joined sz st.transient tr' e f 0 u x)

@@ -33,10 +33,10 @@ use Rattle.crash.proofs.Begin.{start-inv}
 use Rattle.crash.proofs.Fifo.{fifo-none}
 use Rattle.guarantee.specs.Promise.{jobs_of}
 use Rattle.guarantee.specs.View.{entry_of, slot_of, no_slot, view, progress, view_in, view_out, working-name, working-value}
-use Rattle.guarantee.specs.Good.{state_of, Image, Good, start_of}
+use Rattle.guarantee.proofs.Good.{state_of, Image, Good, start_of}
 use Rattle.guarantee.specs.Says.{blank-proper, filled-says-proper}
 use Rattle.guarantee.specs.Surviving.{survives-at}
-use Rattle.guarantee.specs.JobsOf.{Survivor, jobs-of}
+use Rattle.guarantee.proofs.JobsOf.{Survivor, jobs-of}
 
 -- the invariant, at the start of a run
 abbrev pub Begins : Store → Type 0

@@ -13,8 +13,8 @@ use Rattle.image.specs.Torn.{Torn}
 use Rattle.transient.specs.Store.{Store}
 use Rattle.guarantee.specs.Trace.{Call, Moment, moments, Around, beside}
 use Rattle.guarantee.specs.Promise.{jobs_of, Started, Promise}
-use Rattle.guarantee.specs.Cutting.{cut-promise}
-use Rattle.guarantee.specs.Tearing.{torn-cuts}
+use Rattle.guarantee.proofs.Cutting.{cut-promise}
+use Rattle.guarantee.proofs.Tearing.{torn-cuts}
 
 pub demand-3 : (st : Store) → Started st → (calls : List Call) (before after : Moment) → Around (moments st calls) before after
     → (l : List ℕ) → Torn before.store.persistent after.store.persistent l → Promise (jobs_of st.persistent) l (beside l before after)

@@ -18,7 +18,7 @@ use Rattle.crash.specs.Steps.{stored}
 use Rattle.crash.proofs.Lines.{Copied, copied-inv}
 use Rattle.guarantee.specs.Trace.{Plain}
 use Rattle.guarantee.specs.View.{view, view_in, view_out}
-use Rattle.guarantee.specs.Good.{Image, Good}
+use Rattle.guarantee.proofs.Good.{Image, Good}
 
 module _ {sz : Sizes} {start : Jobs} {st : Store} {p : Plain} (g : Good sz start st p) {l : List ℕ} (t : Torn st.persistent st.working l) where
   abbrev st' : Store

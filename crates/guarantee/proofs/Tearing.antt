@@ -14,12 +14,12 @@ use Rattle.recovery.specs.Steps.{zero-spent, free-keeps, free-accepted}
 use Rattle.crash.specs.Reference.{Jobs}
 use Rattle.guarantee.specs.Trace.{Call, Moment, moments, Around, at, within, later, beside}
 use Rattle.guarantee.specs.Promise.{jobs_of, Started}
-use Rattle.guarantee.specs.Good.{Good, start_of}
-use Rattle.guarantee.specs.JobsOf.{same-jobs}
-use Rattle.guarantee.specs.Cutting.{Cuts, good-cuts}
-use Rattle.guarantee.specs.Copying.{torn-good}
-use Rattle.guarantee.specs.Stores.{OneStore, nothing, head, line, word, zeros, ticked, Chain, stays, goes, run-chained}
-use Rattle.guarantee.specs.Running.{moments-good}
+use Rattle.guarantee.proofs.Good.{Good, start_of}
+use Rattle.guarantee.proofs.JobsOf.{same-jobs}
+use Rattle.guarantee.proofs.Cutting.{Cuts, good-cuts}
+use Rattle.guarantee.proofs.Copying.{torn-good}
+use Rattle.guarantee.proofs.Stores.{OneStore, nothing, head, line, word, zeros, ticked, Chain, stays, goes, run-chained}
+use Rattle.guarantee.proofs.Running.{moments-good}
 
 -- ---- the plain board beside the image
 module _ {start : Jobs} {l : List ℕ} (m x : Moment) where
@@ -81,6 +81,7 @@ module _ {sz : Sizes} {start : Jobs} {m x : Moment} (g : Good sz start m.store m
 -- ---- the moments around a cut
 around-cases : {m a b y : Moment} {xs : List Moment} → Chain m xs y → Around (m ∷ xs) a b → (b ≡ a) ⊎ OneStore a b
 around-cases stays at = inl refl
+around-cases {a = a} {b = b} (stays {m = m}) (later i) = elim i [ ]
 around-cases (goes o c) at = inl refl
 around-cases (goes o c) within = inr o
 around-cases (goes o c) (later i) = around-cases c i
