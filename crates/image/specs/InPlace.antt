@@ -1,5 +1,5 @@
 -- An image's words read in place from its bytes: what is required, and the laws.
-use Rattle.std.specs.Prelude.{ℕ, ◌+◌, ◌*◌, ◌-◌, ◌≤◌, ◌<◌, ◌≡◌, refl, List, length, get_or}
+use Rattle.std.specs.Prelude.{ℕ, ◌+◌, ◌*◌, ◌≤◌, ◌<◌, ◌≡◌, refl, List, length, get_or}
 use Rattle.std.proofs.Common.{◌∙◌, ⊎_elim, eq-or-lt_of_le, arith}
 use Rattle.image.specs.Layout.{header_words, header_at, contents_at, header_of, header}
 use Rattle.image.specs.Name.{name_of, name_at}

@@ -1,6 +1,5 @@
 use borrow.Author.Rules.{rules}
 use Rattle.chains.specs.Exits.{laws}
-use Prim.Native.Nat.{◌-◌}
 use Rattle.chains.proofs.clear.Goals as goal
 
 pub loop-b-init : goal.loop-b-init

@@ -1,5 +1,4 @@
 use borrow.Author.Rules.{rules}
-use Prim.Native.Nat.{◌-◌}
 use Rattle.classes.specs.Exits.{laws}
 use Rattle.classes.proofs.count_class.Goals as goal
 use Rattle.classes.proofs.count_class.Goals.{then-in_class, else-in_class}

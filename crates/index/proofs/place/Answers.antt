@@ -1,6 +1,5 @@
 use borrow.Author.Rules.{rules}
 use Rattle.index.specs.Exits.{places}
-use Prim.Native.Nat.{◌-◌}
 use Rattle.index.proofs.place.Goals as goal
 
 pub bucket_at-at-requires : goal.bucket_at-at-requires

@@ -1,6 +1,5 @@
 use borrow.Author.Rules.{rules}
 use Rattle.job_batch.specs.Exits.{laws}
-use Prim.Native.Nat.{◌-◌}
 use Rattle.job_batch.proofs.changes_open.Goals as goal
 
 pub loop-at-init : goal.loop-at-init

@@ -1,5 +1,4 @@
 use borrow.Author.Rules.{rules}
-use Prim.Native.Nat.{◌-◌}
 use Rattle.job_set.specs.Same.{comparing}
 use Rattle.job_set.proofs.same_value.Goals as goal
 

@@ -1,5 +1,4 @@
 use borrow.Author.Rules.{rules}
-use Prim.Native.Nat.{◌-◌}
 use Rattle.lister.specs.Exits.{slots}
 use Rattle.lister.proofs.put_survivors.Goals as goal
 

@@ -1,6 +1,5 @@
 use borrow.Author.Rules.{rules}
 use Rattle.queue.specs.Exits.{laws}
-use Prim.Native.Nat.{◌-◌}
 use Rattle.queue.proofs.any_newer.Goals as goal
 
 pub loop-s-init : goal.loop-s-init

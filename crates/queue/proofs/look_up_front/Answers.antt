@@ -1,5 +1,4 @@
 use borrow.Author.Rules.{rules}
-use Prim.Native.Nat.{◌-◌}
 use Rattle.queue.specs.Exits.{walks}
 use Rattle.queue.proofs.look_up_front.Goals as goal
 

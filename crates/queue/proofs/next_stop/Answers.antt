@@ -1,4 +1,3 @@
-use Prim.Native.Nat.{◌-◌}
 use borrow.Author.Rules.{rules}
 use Rattle.queue.specs.Exits.{laws}
 use Rattle.queue.proofs.next_stop.Goals as goal

@@ -1,6 +1,5 @@
 use borrow.Author.Rules.{rules}
 use Rattle.recovery.specs.Exits.{frees, freeing-on}
-use Prim.Native.Nat.{◌-◌}
 use Rattle.recovery.proofs.next_freed.Goals as goal
 
 pub loop-s-init : goal.loop-s-init

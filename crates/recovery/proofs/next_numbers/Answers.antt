@@ -1,6 +1,5 @@
 use borrow.Author.Rules.{rules}
 use Rattle.recovery.specs.Exits.{steps}
-use Prim.Native.Nat.{◌-◌}
 use Rattle.recovery.proofs.next_numbers.Goals as goal
 
 pub loop-s-init : goal.loop-s-init

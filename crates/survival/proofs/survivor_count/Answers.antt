@@ -1,6 +1,5 @@
 use borrow.Author.Rules.{rules}
 use Rattle.survival.specs.Exits.{laws}
-use Prim.Native.Nat.{◌-◌}
 use Rattle.survival.proofs.survivor_count.Goals as goal
 use Rattle.survival.proofs.survivor_count.Goals.{then-flags-s, else-flags-s}
 

@@ -1,5 +1,4 @@
 use borrow.Author.Rules.{rules}
-use Prim.Native.Nat.{◌-◌}
 use Rattle.text.specs.Putting.{loops}
 use Rattle.text.proofs.put.Goals as goal
 

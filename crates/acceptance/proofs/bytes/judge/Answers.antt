@@ -1,4 +1,4 @@
-use Rattle.std.proofs.Common.{◌-◌, rules}
+use Rattle.std.proofs.Common.{rules}
 use Rattle.acceptance.specs.InPlace.{chunks}
 use Rattle.acceptance.proofs.bytes.judge.Goals as goal
 

@@ -1,4 +1,4 @@
-use Rattle.std.proofs.Common.{◌-◌, rules}
+use Rattle.std.proofs.Common.{rules}
 use Rattle.acceptance.specs.Parts.{partings}
 use Rattle.acceptance.proofs.marks.judge_part.Goals as goal
 

@@ -1,4 +1,4 @@
-use Rattle.std.proofs.Common.{◌-◌, rules}
+use Rattle.std.proofs.Common.{rules}
 use Rattle.acceptance.specs.Naming.{names}
 use Rattle.acceptance.proofs.names.names.Goals as goal
 

@@ -1,4 +1,4 @@
-use Rattle.std.proofs.Common.{◌-◌, ⊎_elim, rules}
+use Rattle.std.proofs.Common.{rules}
 use Rattle.acceptance.specs.InPlace.{counting}
 use Rattle.search.specs.Count.{loops as counts}
 use Rattle.acceptance.proofs.questions.job_count.Goals as goal

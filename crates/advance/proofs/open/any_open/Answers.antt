@@ -1,6 +1,5 @@
 use borrow.Author.Rules.{rules}
 use Rattle.advance.specs.OpenExits.{laws}
-use Prim.Native.Nat.{◌-◌}
 use Rattle.advance.proofs.open.any_open.Goals as goal
 
 pub loop-thread-init : goal.loop-thread-init

@@ -1,6 +1,5 @@
 use borrow.Author.Rules.{rules}
 use Rattle.image.specs.Exits.{laws}
-use Prim.Native.Nat.{◌-◌}
 use Rattle.image.proofs.bytes.decode.Goals as goal
 
 pub loop-i-init : goal.loop-i-init

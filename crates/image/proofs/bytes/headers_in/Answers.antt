@@ -1,6 +1,5 @@
 use borrow.Author.Rules.{rules}
 use Rattle.image.specs.InPlace.{parts}
-use Prim.Native.Nat.{◌-◌}
 use Rattle.image.proofs.bytes.headers_in.Goals as goal
 
 pub loop-i-init : goal.loop-i-init

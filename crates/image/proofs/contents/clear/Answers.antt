@@ -1,6 +1,5 @@
 use borrow.Author.Rules.{rules}
 use Rattle.image.specs.Exits.{laws}
-use Prim.Native.Nat.{◌-◌}
 use Rattle.image.proofs.contents.clear.Goals as goal
 
 pub loop-j-init : goal.loop-j-init

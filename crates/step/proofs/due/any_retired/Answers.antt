@@ -1,5 +1,4 @@
 use borrow.Author.Rules.{rules}
-use Prim.Native.Nat.{◌-◌}
 use Rattle.step.specs.DueExits.{groups}
 use Rattle.step.proofs.due.any_retired.Goals as goal
 

@@ -1,5 +1,4 @@
 use borrow.Author.Rules.{rules}
-use Prim.Native.Nat.{◌-◌}
 use Rattle.step.specs.DueExits.{walks}
 use Rattle.step.proofs.due.due_from.Goals as goal
 

@@ -1,5 +1,4 @@
 use borrow.Author.Rules.{rules}
-use Prim.Native.Nat.{◌-◌}
 use Rattle.step.specs.DueExits.{dues}
 use Rattle.step.proofs.due.due_in.Goals as goal
 

@@ -1,6 +1,5 @@
 use borrow.Author.Rules.{rules}
 use Rattle.table.specs.Exits.{finds}
-use Prim.Native.Nat.{◌-◌}
 use Rattle.table.proofs.find.free_slot.Goals as goal
 
 pub loop-k-init : goal.loop-k-init

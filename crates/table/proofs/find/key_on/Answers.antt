@@ -1,6 +1,5 @@
 use borrow.Author.Rules.{rules}
 use Rattle.table.specs.KeyExits.{keys}
-use Prim.Native.Nat.{◌-◌}
 use Rattle.table.proofs.find.key_on.Goals as goal
 
 pub loop-s-init : goal.loop-s-init

@@ -1,6 +1,5 @@
 use borrow.Author.Rules.{rules}
 use Rattle.table.specs.Exits.{finds, looking-keyed}
-use Prim.Native.Nat.{◌-◌}
 use Rattle.table.proofs.find.look_up.Goals as goal
 
 pub key_first-s-requires : goal.key_first-s-requires

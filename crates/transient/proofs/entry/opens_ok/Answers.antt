@@ -1,4 +1,4 @@
-use Rattle.std.proofs.Common.{◌-◌, rules}
+use Rattle.std.proofs.Common.{rules}
 use Rattle.transient.specs.Exits.{laws, entries}
 use Rattle.transient.proofs.entry.opens_ok.Goals as goal
 

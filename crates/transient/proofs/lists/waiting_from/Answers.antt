@@ -1,4 +1,4 @@
-use Rattle.std.proofs.Common.{◌-◌, rules}
+use Rattle.std.proofs.Common.{rules}
 use Rattle.transient.specs.ListExits.{walks}
 use Rattle.transient.proofs.lists.waiting_from.Goals as goal
 
