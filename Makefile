@@ -38,8 +38,8 @@ man3 := man/board.3
 demo_files := demo/demo.c demo/cuts.c demo/desk.c demo/early.c
 compile = $(CC) $(CPPFLAGS) $(CFLAGS) $(LDFLAGS) -I include
 # The files of a crate and of all that it stands on.
-sources = crates.txt $(shell find $(addprefix crates/,$(1) $(shell sed -n 's/^$(1): *//p' crates.txt)) \
-	\( -name '*.rt' -o -name '*.antt' \) 2> /dev/null)
+sources = crates.txt $(shell find $(addprefix crates/,$(1) $(shell sed -n 's/^$(1)\( staticlib\)*: *//p' crates.txt)) \
+	-name out -prune -o \( -name '*.rt' -o -name '*.antt' \) -print 2> /dev/null)
 # A folder to install into, as a word of the shell.
 quoted = '$(subst ','\'',$(1))'
 into = $(call quoted,$(DESTDIR)$(1))
@@ -124,4 +124,4 @@ uninstall:
 	rm -f $(foreach name,$(notdir $(man3)),$(call into,$(mandir)/man3/$(name)))
 
 clean:
-	@exec tools/alone rm -rf target
+	@exec tools/alone rm -rf target crates/*/out
