@@ -65,13 +65,14 @@ $(library): $(call sources,board) c/exported.c include/board.h tools/staticlib
 define program
 target/bin/$(1): $(call sources,$(1))
 	@echo 'Proving and compiling $(1) and what it stands on.'
-	@exec tools/alone tools/prove check $(1)
-	@touch $$@
+	@exec tools/alone tools/prove $(1)
+	@mkdir -p $$(@D)
+	@cp crates/$(1)/out/$(1) $$@
 endef
 $(foreach name,$(notdir $(programs)),$(eval $(call program,$(name))))
 
 proofs:
-	@exec tools/alone tools/prove check
+	@exec tools/alone tools/prove
 	@echo 'Every crate is proved, and with them the theorem of crates/guarantee.'
 
 test:

@@ -19,7 +19,7 @@ use Rattle.acceptance.specs.Requires.{nameless, same_version}
 use Rattle.acceptance.specs.Sound.{Sound, says-accepted}
 use Rattle.recovery.specs.Requires.{finished}
 use Rattle.recovery.specs.Steps.{survivors-apart}
-use Rattle.recovery.specs.Completes.{Rebuilt, recovery-bound, recovery-completes, recovery-rebuilds}
+use Rattle.recovery.proofs.Completes.{Rebuilt, recovery-bound, recovery-completes, recovery-rebuilds}
 use Rattle.crash.specs.Reference.{Jobs, jobs_at, Fifo}
 use Rattle.crash.specs.Slots.{Value, Slot, Worded}
 use Rattle.crash.specs.Steps.{Kept, Survives}

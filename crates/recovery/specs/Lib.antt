@@ -2,7 +2,6 @@ pub mod Recover
 pub mod Freed
 pub mod Steps
 pub mod Recovering
-pub mod Completes
 pub mod Requires
 pub mod Notes
 pub mod Exits
