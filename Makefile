@@ -54,7 +54,7 @@ all: $(library) $(programs)
 
 lib: $(library)
 
-$(library): $(call sources,board) c/exported.c include/board.h tools/staticlib
+$(library): $(call sources,board_c) c/exported.c include/board.h tools/staticlib
 	@tools/need gcc=gcc ar=binutils stdio.h=libc6-dev
 	@echo 'Proving and compiling the library: some minutes from nothing; what has not changed is not proved again.'
 	@mkdir -p target

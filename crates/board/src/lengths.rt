@@ -2,8 +2,7 @@
 ghost use Rattle.std.specs.Prelude.{◌≡◌};
 ghost use Rattle.board.specs.Calls.{image_length, transient_length};
 
-#[unsafe(no_mangle)]
-pub extern "C" fn board_image_words(slots: u32, words: u32) -> usize
+pub fn board_image_words(slots: u32, words: u32) -> usize
     ensures { result ≡ image_length slots words }
 {
     let n = image::shape::wide(slots);
@@ -15,8 +14,7 @@ pub extern "C" fn board_image_words(slots: u32, words: u32) -> usize
     }
 }
 
-#[unsafe(no_mangle)]
-pub extern "C" fn board_transient_words(slots: u32, threads: u32) -> usize
+pub fn board_transient_words(slots: u32, threads: u32) -> usize
     ensures { result ≡ transient_length slots threads }
 {
     let n = image::shape::wide(slots);

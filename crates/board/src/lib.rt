@@ -1,4 +1,4 @@
-// The public calls, for C: include/board.h is their C view. None requires anything: bad input is refused.
+// The public calls. None requires anything: bad input is refused. `board_c` exports each to C.
 #![tactic(auto)]
 
 pub mod lengths;

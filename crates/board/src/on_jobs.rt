@@ -25,8 +25,7 @@ pub fn reply_number(k: Check) -> u32
     }
 }
 
-#[unsafe(no_mangle)]
-pub extern "C" fn board_format(
+pub fn board_format(
     working: &mut [u32],
     persistent: &mut [u32],
     transient: &mut [u32],
@@ -38,32 +37,19 @@ pub extern "C" fn board_format(
     reply_number(format::format(working, persistent, transient, slots, words))
 }
 
-#[unsafe(no_mangle)]
-pub extern "C" fn board_begin(
-    working: &[u32],
-    persistent: &[u32],
-    transient: &mut [u32],
-    thread: u32,
-) -> u32
+pub fn board_begin(working: &[u32], persistent: &[u32], transient: &mut [u32], thread: u32) -> u32
     ensures { outcome result working.now persistent.now transient.new ≡ numbered check_number (begin (store working.now persistent.now transient.old) thread) }
 {
     reply_number(begin_end::begin(working, persistent, transient, thread))
 }
 
-#[unsafe(no_mangle)]
-pub extern "C" fn board_end(
-    working: &[u32],
-    persistent: &[u32],
-    transient: &mut [u32],
-    thread: u32,
-) -> u32
+pub fn board_end(working: &[u32], persistent: &[u32], transient: &mut [u32], thread: u32) -> u32
     ensures { outcome result working.now persistent.now transient.new ≡ numbered check_number (end (store working.now persistent.now transient.old) thread) }
 {
     reply_number(begin_end::end(working, persistent, transient, thread))
 }
 
-#[unsafe(no_mangle)]
-pub extern "C" fn board_new(
+pub fn board_new(
     working: &mut [u32],
     persistent: &[u32],
     transient: &mut [u32],
@@ -76,8 +62,7 @@ pub extern "C" fn board_new(
     reply_number(job_new::new(working, persistent, transient, thread, key, value))
 }
 
-#[unsafe(no_mangle)]
-pub extern "C" fn board_set(
+pub fn board_set(
     working: &mut [u32],
     persistent: &[u32],
     transient: &mut [u32],
@@ -90,8 +75,7 @@ pub extern "C" fn board_set(
     reply_number(job_set::set(working, persistent, transient, thread, key, value))
 }
 
-#[unsafe(no_mangle)]
-pub extern "C" fn board_delete(
+pub fn board_delete(
     working: &mut [u32],
     persistent: &[u32],
     transient: &mut [u32],
@@ -111,8 +95,7 @@ fn batch_number(b: Batch) -> u64
     b.accepted as u64 + 4294967296 * reply_number(ended) as u64
 }
 
-#[unsafe(no_mangle)]
-pub extern "C" fn board_batch(
+pub fn board_batch(
     working: &mut [u32],
     persistent: &[u32],
     transient: &mut [u32],
@@ -125,8 +108,7 @@ pub extern "C" fn board_batch(
 }
 
 // Where the value starts in the working image, or 2^32 plus the refusal.
-#[unsafe(no_mangle)]
-pub extern "C" fn board_read(
+pub fn board_read(
     working: &[u32],
     persistent: &[u32],
     transient: &[u32],
@@ -138,8 +120,7 @@ pub extern "C" fn board_read(
     job_read::read_position(working, persistent, transient, thread, key)
 }
 
-#[unsafe(no_mangle)]
-pub extern "C" fn board_read_refusal(
+pub fn board_read_refusal(
     working: &[u32],
     persistent: &[u32],
     transient: &[u32],

@@ -11,8 +11,7 @@ ghost use Rattle.board.specs.Calls.{numbered};
 use queue_append::Append;
 
 // The order number that the entry was given, or 2^32 plus the refusal.
-#[unsafe(no_mangle)]
-pub extern "C" fn board_append(
+pub fn board_append(
     working: &mut [u32],
     persistent: &[u32],
     transient: &mut [u32],
@@ -28,8 +27,7 @@ pub extern "C" fn board_append(
 }
 
 // 0 for accepted, else 01's number of the refusal.
-#[unsafe(no_mangle)]
-pub extern "C" fn board_take(
+pub fn board_take(
     working: &mut [u32],
     persistent: &[u32],
     transient: &mut [u32],
@@ -41,20 +39,13 @@ pub extern "C" fn board_take(
 }
 
 // Where the value starts in the working image, or 2^32 plus the refusal.
-#[unsafe(no_mangle)]
-pub extern "C" fn board_look(
-    working: &[u32],
-    persistent: &[u32],
-    transient: &[u32],
-    thread: u32,
-) -> u64
+pub fn board_look(working: &[u32], persistent: &[u32], transient: &[u32], thread: u32) -> u64
     ensures { result ≡ read_position (look_entry (store working.now persistent.now transient.now) thread) working.now }
 {
     queue_look::look_position(working, persistent, transient, thread)
 }
 
-#[unsafe(no_mangle)]
-pub extern "C" fn board_look_refusal(
+pub fn board_look_refusal(
     working: &[u32],
     persistent: &[u32],
     transient: &[u32],

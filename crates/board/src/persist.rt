@@ -11,12 +11,7 @@ use step::Advance;
 use sync::answer::Sync;
 
 // 0 went on, 1 ticked, or 2^32 plus the refusal.
-#[unsafe(no_mangle)]
-pub extern "C" fn board_advance(
-    working: &mut [u32],
-    persistent: &mut [u32],
-    transient: &mut [u32],
-) -> u64
+pub fn board_advance(working: &mut [u32], persistent: &mut [u32], transient: &mut [u32]) -> u64
     ensures { outcome result working.new persistent.new transient.new ≡ numbered advance_number (advance (store working.old persistent.old transient.old)) }
 {
     match advance::advance(working, persistent, transient) {
@@ -33,12 +28,7 @@ fn line_count(lines: usize) -> u64
 }
 
 // The lines stored, or 2^32 plus the refusal.
-#[unsafe(no_mangle)]
-pub extern "C" fn board_sync(
-    working: &mut [u32],
-    persistent: &mut [u32],
-    transient: &mut [u32],
-) -> u64
+pub fn board_sync(working: &mut [u32], persistent: &mut [u32], transient: &mut [u32]) -> u64
     ensures { outcome result working.new persistent.new transient.new ≡ numbered sync_number (sync (store working.old persistent.old transient.old)) }
 {
     match sync::sync(working, persistent, transient) {
@@ -48,8 +38,7 @@ pub extern "C" fn board_sync(
 }
 
 // 0 for accepted, else 01's number of the refusal.
-#[unsafe(no_mangle)]
-pub extern "C" fn board_write_back(
+pub fn board_write_back(
     working: &[u32],
     persistent: &mut [u32],
     transient: &[u32],

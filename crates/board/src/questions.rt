@@ -4,8 +4,7 @@ ghost use Rattle.acceptance.specs.Questions.{clock_of_bytes, survivors_of_bytes}
 
 use acceptance::questions::Jobs;
 
-#[unsafe(no_mangle)]
-pub extern "C" fn board_clock(bytes: &[u8]) -> u64
+pub fn board_clock(bytes: &[u8]) -> u64
     ensures { result ≡ clock_of_bytes bytes.now }
 {
     match acceptance::questions::count_jobs(bytes) {
@@ -14,8 +13,7 @@ pub extern "C" fn board_clock(bytes: &[u8]) -> u64
     }
 }
 
-#[unsafe(no_mangle)]
-pub extern "C" fn board_survivors(bytes: &[u8]) -> u64
+pub fn board_survivors(bytes: &[u8]) -> u64
     ensures { result ≡ survivors_of_bytes bytes.now }
 {
     match acceptance::questions::count_jobs(bytes) {

@@ -7,12 +7,7 @@ ghost use Rattle.board.specs.Calls.{numbered};
 use recovery::Recovery;
 
 // 0 went on, 1 done, or 2^32 plus the refusal.
-#[unsafe(no_mangle)]
-pub extern "C" fn board_recover(
-    working: &mut [u32],
-    persistent: &mut [u32],
-    transient: &mut [u32],
-) -> u64
+pub fn board_recover(working: &mut [u32], persistent: &mut [u32], transient: &mut [u32]) -> u64
     ensures { outcome result working.new persistent.new transient.new ≡ numbered recovery_number (recover (store working.old persistent.old transient.old)) }
 {
     match recovery::recover(working, persistent, transient) {

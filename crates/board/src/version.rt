@@ -2,8 +2,7 @@
 ghost use Rattle.std.specs.Prelude.{◌≡◌};
 ghost use Rattle.board.specs.Calls.{version};
 
-#[unsafe(no_mangle)]
-pub extern "C" fn board_version() -> u32
+pub fn board_version() -> u32
     ensures { result ≡ version }
 {
     900
