@@ -1,10 +1,8 @@
 -- 01, "Where each call can decline": what recovery refuses in an image, numbers 1 to 4.
-use Rattle.std.specs.Prelude.{ℕ, Bool, not, ◌&&◌, ◌||◌, List, ◌==◌, nat_le}
+use Rattle.std.specs.Prelude.{ℕ, Bool, not, ◌&&◌, ◌||◌, List, ◌==◌, nat_le, Ok}
 use Rattle.search.specs.Some.{any_of, every}
-use Rattle.reply.specs.declared.Check.{Check}
-use Rattle.reply.specs.declared.Check.TheVariants.{Accepted}
 use Rattle.reply.specs.declared.Refusal.TheVariants.{BadSizes, BadClock, BadSlot, Duplicate}
-use Rattle.reply.specs.Refusals.{refuse}
+use Rattle.reply.specs.Refusals.{Check, refuse}
 use Rattle.image.specs.declared.header.Header.{Header}
 use Rattle.image.specs.Layout.{most_number, queue_board, has_zero, header, slots_of, width_of, clock_of, shape_ok, clock_ok}
 use Rattle.image.specs.declared.name.Name.{Name}
@@ -40,4 +38,4 @@ image_check l =
     refuse (not (shape_ok l)) BadSizes
     (refuse (not (clock_ok c)) BadClock
     (refuse (not (every (λ s. proper c (header l s)) n) || any_of (λ s. survivor l n s && misnamed (name_at l n w s)) n) BadSlot
-    (refuse (any_of (version_below c (header l)) n || any_of (name_below l n w) n) Duplicate Accepted)))
+    (refuse (any_of (version_below c (header l)) n || any_of (name_below l n w) n) Duplicate (Ok tt))))

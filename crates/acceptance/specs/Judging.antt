@@ -1,41 +1,42 @@
 -- The first pass over the slots: what contracts say of a slot and of all, and the laws of the loop.
-use Rattle.std.specs.Prelude.{◌≡◌, ℕ, ◌+◌, ◌-◌, ◌*◌, ◌<◌, ◌≤◌, Bool, true, false, not, ◌&&◌, ◌||◌, ltb, ◌≢◌, ◌⊎◌, List, length, set, ◌==◌, nat_eq, nat_le, nat_lt, slice_index_or, slice_set}
+use Rattle.std.specs.Prelude.{◌≡◌, ℕ, ◌+◌, ◌*◌, ◌<◌, ◌≤◌, Bool, true, false, not, ◌&&◌, ◌||◌, ltb, ◌≢◌, List, length, ◌==◌, nat_eq, nat_le, nat_lt, slice_index_or, slice_set, Result, Ok, Err}
 use Rattle.std.proofs.Math.Path.{refl, sym}
 use Rattle.std.proofs.Common.{ap, ◌∙◌, length-set, get_or-set_same, get_or-set_other, eq-or-lt_of_le, arith}
 use Rattle.std.proofs.Math.Logic.{⊎_elim}
 use Rattle.std.proofs.Math.Bool.{and-true, and-false, or-true, or-false}
 use borrow.Author.Tests.{le-leb, lt-leb, eq-eqb, eqb-true, le-ltb, not-true}
-use Rattle.search.specs.Bools.{cases, never, upheld, same_test, and_left, and_right}
-use Rattle.search.specs.Some.{any_of, none-some, some_same, any-more, every, at_every}
+use Rattle.search.specs.Bools.{cases, never, refuted, same_test, and_left, and_right}
+use Rattle.search.specs.Some.{any_of, none-some, some_same, any-more, every, every-at, at_every}
+use Rattle.reply.specs.declared.Refusal.{Refusal}
+use Rattle.reply.specs.declared.Refusal.TheVariants.{BadSlot}
 use Rattle.image.specs.declared.header.Header.{Header}
 use Rattle.image.specs.Layout.{has_zero, is_filled, is_payload, header, clock_of}
 use Rattle.image.specs.Whole.{whole_says, zero-unfilled}
+use Rattle.image.specs.Requires.{HeaderFits}
 use Rattle.chains.specs.Chains.{number_of, label_of, pair_in, newer_in, older_in, Lent, Blank, Linked}
 use Rattle.chains.specs.Requires.{At}
 use Rattle.chains.specs.Carrying.{Carrying, carrying-start, carrying-skip, carrying-link, carried}
 use Rattle.survival.specs.Survivors.{kept, beats, survivor}
-use Rattle.survival.specs.Requires.{Headers, Marked, survives, wins}
+use Rattle.survival.specs.Requires.{Headers, Marked, survives, wins, header-in}
 use Rattle.survival.specs.Rivals.{Admits, Admitted}
-use Rattle.acceptance.specs.declared.marks.Verdict.{Verdict}
-use Rattle.acceptance.specs.declared.marks.Verdict.TheVariants.{Bad, Once, Twice}
 use Rattle.acceptance.specs.Accept.{in_range, proper, version_below}
 use Rattle.acceptance.specs.Requires.{all_proper, version_twice}
 use Rattle.acceptance.specs.Ordered.{ordered}
 
--- ---- what a verdict says
-abbrev pub is_bad : Verdict → Bool
-is_bad Bad = true
-is_bad Once = false
-is_bad Twice = false
+-- ---- what a pass answers: was something found twice? A refusal is BadSlot, for a reason
+pub record Answer (why : Type 0) (what : Bool → Type 0) (r : Result Bool Refusal) : Type 0 where
+  pub refused : {e : Refusal} → r ≡ Err e → (e ≡ BadSlot) × why
+  pub found : {b : Bool} → r ≡ Ok b → what b
 
-abbrev pub is_twice : Verdict → Bool
-is_twice Bad = false
-is_twice Once = false
-is_twice Twice = true
+ok-is : {a b : Bool} → ◌≡◌ {A = Result Bool Refusal} (Ok a) (Ok b) → a ≡ b
+ok-is e = cc
 
-pub record Says (twice : Bool) (r : Verdict) : Type 0 where
-  pub fine : is_bad r ≡ false
-  pub twice-is : is_twice r ≡ twice
+module _ {why : Type 0} {what : Bool → Type 0} where
+  pub refuses : why → Answer why what (Err BadSlot)
+  refuses y = record { refused = λ e. (cc, y); found = λ e. let z : ◌≡◌ {A = ℕ} 0 1 = cc in absurd (omega arith) }
+
+  pub finds : {b : Bool} → what b → Answer why what (Ok b)
+  finds y = record { refused = λ e. let z : ◌≡◌ {A = ℕ} 0 1 = cc in absurd (omega arith); found = λ e. rw (← ok-is e) y }
 
 -- ---- one slot
 pub record Judges (m s : ℕ) (l : List ℕ) (flags : List Bool) : Type 0 where
@@ -53,12 +54,14 @@ pub record Over (l : List ℕ) (s : ℕ) (flags flags' : List Bool) (l' : List �
   pub skipped : l' ≡ slice_set l (4 * s + 2) 0
   pub cleared : flags' ≡ slice_set flags s false
 
-pub record JudgedSlot (m : ℕ) (l : List ℕ) (s c : ℕ) (h : Header) (flags flags' : List Bool) (l' : List ℕ) (r : Verdict) : Type 0 where
-  pub bad : is_bad r ≡ not (proper c h)
-  pub over : is_bad r ≡ false → kept c h ≡ false → Over l s flags flags' l'
-  pub once : is_bad r ≡ false → kept c h ≡ false → is_twice r ≡ false
-  pub met : is_bad r ≡ false → kept c h ≡ true → Admitted m l s h flags flags' l' (is_twice r)
+pub record JudgedFine (m : ℕ) (l : List ℕ) (s c : ℕ) (h : Header) (flags flags' : List Bool) (l' : List ℕ) (twice : Bool) : Type 0 where
+  pub proper-is : proper c h ≡ true
+  pub over : kept c h ≡ false → Over l s flags flags' l' × (twice ≡ false)
+  pub met : kept c h ≡ true → Admitted m l s h flags flags' l' twice
   pub whole : kept c h ≡ true → has_zero h ≡ false
+
+abbrev pub JudgedSlot : ℕ → List ℕ → ℕ → ℕ → Header → List Bool → List Bool → List ℕ → Result Bool Refusal → Type 0
+JudgedSlot m l s c h flags flags' l' = Answer (proper c h ≡ false) (JudgedFine m l s c h flags flags' l')
 
 -- ---- all slots: room for the pass, and what it leaves
 pub record Room (img : List ℕ) (n m : ℕ) (l : List ℕ) (flags : List Bool) : Type 0 where
@@ -67,19 +70,16 @@ pub record Room (img : List ℕ) (n m : ℕ) (l : List ℕ) (flags : List Bool) 
   pub blank : Blank m l
   pub long : length flags ≡ 1024
 
-pub record Judged (img : List ℕ) (n m : ℕ) (l : List ℕ) (flags : List Bool) (r : Verdict) : Type 0 where
-  pub bad : is_bad r ≡ not (all_proper img n)
-  pub lent : is_bad r ≡ false → Lent m l
-  pub marked : is_bad r ≡ false → Marked img n flags
-  pub twice-is : is_bad r ≡ false → is_twice r ≡ version_twice img n
+pub record JudgedAll (img : List ℕ) (n m : ℕ) (l : List ℕ) (flags : List Bool) (twice : Bool) : Type 0 where
+  pub proper-is : all_proper img n ≡ true
+  pub lent : Lent m l
+  pub marked : Marked img n flags
+  pub twice-is : twice ≡ version_twice img n
+
+abbrev pub Judged : List ℕ → ℕ → ℕ → List ℕ → List Bool → Result Bool Refusal → Type 0
+Judged img n m l flags = Answer (all_proper img n ≡ false) (JudgedAll img n m l flags)
 
 -- ---- the ways out for one slot
-pub verdict-twice : {b : Bool} → b ≡ true → Says b Twice
-verdict-twice e = record { fine = refl; twice-is = sym e }
-
-pub verdict-once : {b : Bool} → b ≡ false → Says b Once
-verdict-once e = record { fine = refl; twice-is = sym e }
-
 module _ {m s : ℕ} {l : List ℕ} {flags : List Bool} (z : Judges m s l flags) where
   pub judges-at : At m s l
   judges-at = record { lent = z.linked.lent; within = z.within }
@@ -111,60 +111,37 @@ module _ {m s c : ℕ} {h : Header} {l : List ℕ} {flags : List Bool} (z : Judg
   unfolding kept is_filled in_range
   filled-kept = rw (z.whole, and_left (nat_le h.kind 3) _ z.range)
 
-  pub filled-admitted : {e d : ℕ} {flags' : List Bool} {l' : List ℕ} {b : Bool} {r : Verdict} → e ≡ h.epoch → d ≡ c → e + 2 ≤ d
-      → Admitted m l s h flags flags' l' b → Says b r → JudgedSlot m l s c h flags flags' l' r
-  filled-admitted {e} {d} p q a y v =
+  pub filled-admitted : {e d : ℕ} {flags' : List Bool} {l' : List ℕ} {b : Bool} → e ≡ h.epoch → d ≡ c → e + 2 ≤ d
+      → Admitted m l s h flags flags' l' b → JudgedFine m l s c h flags flags' l' b
+  filled-admitted {e} {d} p q a y =
       let k : kept c h ≡ true = filled-kept ∙ le-leb (h.epoch + 2) c (omega arith) in
-      record {
-        bad = v.fine ∙ sym (ap not filled-proper);
-        over = λ f g. never (kept c h) k g;
-        once = λ f g. never (kept c h) k g;
-        met = λ f g. rw v.twice-is y;
-        whole = λ g. z.whole;
-      }
+      record { proper-is = filled-proper; over = λ g. never (kept c h) k g; met = λ g. y; whole = λ g. z.whole }
 
   pub filled-new : {e d : ℕ} {flags' : List Bool} {l' : List ℕ} → e ≡ h.epoch → d ≡ c → d < e + 2
-      → Over l s flags flags' l' → JudgedSlot m l s c h flags flags' l' Once
+      → Over l s flags flags' l' → JudgedFine m l s c h flags flags' l' false
   filled-new {e} {d} p q a y =
       let k : kept c h ≡ false = filled-kept ∙ lt-leb (h.epoch + 2) c (omega arith) in
-      record {
-        bad = sym (ap not filled-proper);
-        over = λ f g. y;
-        once = λ f g. refl;
-        met = λ f g. never (kept c h) g k;
-        whole = λ g. z.whole;
-      }
+      record { proper-is = filled-proper; over = λ g. (y, refl); met = λ g. never (kept c h) g k; whole = λ g. z.whole }
 
 -- a header with a word 0 is not kept
 free-kept : (c : ℕ) (h : Header) → has_zero h ≡ true → kept c h ≡ false
 unfolding kept
 free-kept c h t = rw (zero-unfilled h t)
 
-module _ {m s : ℕ} (c : ℕ) {h : Header} {l : List ℕ} {flags flags' : List Bool} {l' : List ℕ} {b : Bool} (e : b ≡ has_zero h) where
-  pub judged-free : b ≡ true → Over l s flags flags' l' → JudgedSlot m l s c h flags flags' l' Once
+module _ (c : ℕ) (h : Header) {b : Bool} (e : b ≡ has_zero h) where
+  pub judged-free : {m s : ℕ} {l : List ℕ} {flags flags' : List Bool} {l' : List ℕ} → b ≡ true → Over l s flags flags' l' → JudgedFine m l s c h flags flags' l' false
   unfolding proper
   judged-free t y =
-      record {
-        bad = rw (← e, t);
-        over = λ f g. y;
-        once = λ f g. refl;
-        met = λ f g. never (kept c h) g (free-kept c h (sym e ∙ t));
-        whole = λ g. never (kept c h) g (free-kept c h (sym e ∙ t));
-      }
+      let f = free-kept c h (sym e ∙ t) in
+      record { proper-is = rw (← e, t); over = λ g. (y, refl); met = λ g. never (kept c h) g f; whole = λ g. never (kept c h) g f }
 
-  pub judged-bad : {r : Bool} → b ≡ false → r ≡ ordered c h → r ≡ false → JudgedSlot m l s c h flags flags' l' Bad
+  pub judged-bad : {r : Bool} → b ≡ false → r ≡ ordered c h → r ≡ false → proper c h ≡ false
   unfolding proper ordered
   judged-bad f p q =
       let w : has_zero h ≡ false = sym e ∙ f in
       let d : not (has_zero h) && in_range c h ≡ false = sym p ∙ q in
       let g : in_range c h ≡ false = (rw w at d) in
-      record {
-        bad = rw (w, g);
-        over = λ t g. never true refl t;
-        once = λ t g. never true refl t;
-        met = λ t g. never true refl t;
-        whole = λ g. sym e ∙ f;
-      }
+      rw (w, g)
 
 -- ---- tests about one slot more
 -- a slot that survives among i slots does so among i + 1 unless the last one beats it
@@ -331,46 +308,51 @@ module _ {img : List ℕ} {n c m i : ℕ} {l : List ℕ} {flags : List Bool} {tw
           })
 
   -- ---- a slot more
-  module _ {h : Header} {flags' : List Bool} {l' : List ℕ} {r : Verdict} (b : i < n) (at : h ≡ header img i) (y : JudgedSlot m l i c h flags flags' l' r) where
-    slot-proper : is_bad r ≡ false → proper c h ≡ true
-    slot-proper f = upheld (proper c h) (λ e. never (is_bad r) (y.bad ∙ ap not e) f)
+  pub judging-judges : i < n → Judges m i l flags
+  judging-judges h = record { linked = z.carries.linked; within = omega (arith, z.fits); long = z.long }
 
-    judging-next : is_bad r ≡ false → Judging img n c m (i + 1) l' flags' (twice || is_twice r)
-    judging-next f =
-        ⊎_elim
-        (λ (k : kept c h ≡ true). judging-met h at k (y.whole k) b (slot-proper f) (y.met f k))
-        (λ (g : kept c h ≡ false). rw (y.once f g, or-false twice) (judging-over h at g b (slot-proper f) (y.over f g)))
-        (cases (kept c h))
+  module _ {h : Header} {flags' : List Bool} {l' : List ℕ} {r : Result Bool Refusal} (d : i < n) (at : h ≡ header img i) (y : JudgedSlot m l i c h flags flags' l' r) where
+    pub judging-on : {b twice' : Bool} → r ≡ Ok b → twice' ≡ (twice || b) → Judging img n c m (i + 1) l' flags' twice'
+    judging-on {b} e q =
+        let v = y.found e in
+        rw q
+        (⊎_elim
+        (λ (k : kept c h ≡ true). judging-met h at k (v.whole k) d v.proper-is (v.met k))
+        (λ (g : kept c h ≡ false). rw ((v.over g).1, or-false twice) (judging-over h at g d v.proper-is (v.over g).0))
+        (cases (kept c h)))
 
-    pub judging-on : {b0 twice' : Bool} → b0 ≡ is_bad r → b0 ≡ false → twice' ≡ (twice || is_twice r) → Judging img n c m (i + 1) l' flags' twice'
-    judging-on e f q = rw q (judging-next (sym e ∙ f))
+    pub judging-bad : {e : Refusal} → c ≡ clock_of img → r ≡ Err e → Judged img n m l' flags' (Err e)
+    unfolding all_proper
+    judging-bad q e =
+        let v = y.refused e in
+        let bad : every (λ s. proper (clock_of img) (header img s)) n ≡ false =
+        refuted _ (λ a. never (proper c h) (rw (at, q) (every-at (λ s. proper (clock_of img) (header img s)) n a i d)) v.1) in
+        rw v.0 (refuses bad)
 
-  pub judging-end : {r : Verdict} → Headers img n → n ≤ i → c ≡ clock_of img → Says twice r → Judged img n m l flags r
+  pub judging-end : Headers img n → n ≤ i → c ≡ clock_of img → JudgedAll img n m l flags twice
   unfolding all_proper version_twice survivor survives wins
-  judging-end {r} hd a q v =
+  judging-end hd a q =
       let e : i ≡ n = omega (arith, z.low) in
-      let whole : every (λ s. proper (clock_of img) (header img s)) n ≡ true =
-      at_every (λ s. proper (clock_of img) (header img s)) n (λ t b. rw (← q) (z.fine t (omega arith))) in
       record {
-        bad = v.fine ∙ (rw whole);
-        lent = λ f. z.carries.linked.lent;
-        marked = λ f. record {
+        proper-is = at_every (λ s. proper (clock_of img) (header img s)) n (λ t b. rw (← q) (z.fine t (omega arith)));
+        lent = z.carries.linked.lent;
+        marked = record {
           headers = hd;
           flagged = record { long = z.long; same = λ t b. rw (← q, ← e) (z.flagged t (omega arith)) };
         };
-        twice-is = λ f. v.twice-is ∙ z.twice-is ∙ (rw (e, q));
+        twice-is = z.twice-is ∙ (rw (e, q));
       }
 
-module _ (twice : Bool) {v : Verdict} where
-  pub or-bad : v ≡ Bad → twice ≡ (twice || is_twice v)
-  or-bad e = rw e (sym (or-false twice))
+module _ {img : List ℕ} {n m : ℕ} {l : List ℕ} {flags : List Bool} (z : Room img n m l flags) where
+  pub room-clock : 2 < length img
+  room-clock = omega (arith, z.headers.long)
 
-  pub or_once : v ≡ Once → twice ≡ (twice || is_twice v)
-  or_once e = rw e (sym (or-false twice))
+  pub room-header : {i : ℕ} → i < n → HeaderFits img n i
+  room-header h = header-in z.headers h
 
-  pub or-twice : v ≡ Twice → true ≡ (twice || is_twice v)
-  or-twice e = rw e (sym (or-true twice))
+  pub room-headers : Headers img n
+  room-headers = z.headers
 
-pub ruleset verdicts = (or-bad, or_once, or-twice)
+pub ruleset judgements = (refuses, finds, judges-at, judges-flag, judges-filled, over-is, filled-judges, filled-admits, filled-admitted, filled-new, judged-free, judged-bad)
 
-pub ruleset judgements = (verdict-twice, verdict-once, judges-at, judges-flag, judges-filled, over-is, filled-judges, filled-admits, filled-admitted, filled-new, judged-free, judged-bad)
+pub ruleset judgings = (finds, room-clock, room-header, room-headers, judging-start, judging-judges, judging-on, judging-bad, judging-end)

@@ -1,9 +1,8 @@
 -- What a check that accepts says of the sizes, and what words the bytes of an image make.
-use Rattle.std.specs.Prelude.{◌≡◌, ℕ, ◌/◌, ◌≤◌, true, false, not, List, length, take}
+use Rattle.std.specs.Prelude.{◌≡◌, ℕ, ◌/◌, ◌≤◌, true, false, not, List, length, take, Ok, Err}
 use Rattle.std.proofs.Common.{sym, ◌∙◌, ⊎_elim, length-take-le}
 use Rattle.std.proofs.lemmas.Bool.{not-false}
 use Rattle.search.specs.Bools.{cases}
-use Rattle.reply.specs.declared.Check.TheVariants.{Accepted, Refused}
 use Rattle.reply.specs.declared.Refusal.TheVariants.{BadSizes, BadClock}
 use Rattle.reply.specs.Refusals.{refuse, by_check, not-refused, both-accepted}
 use Rattle.image.specs.Layout.{slots_of, width_of, clock_of, shape_ok, clock_ok}
@@ -15,7 +14,7 @@ use Rattle.acceptance.specs.Accept.{image_check}
 use Rattle.acceptance.specs.Requires.{head_check, nameless, slots_check, Buffered, buffered, decodes}
 
 -- the check of an image, by its parts
-pub image-is : (l : List ℕ) → image_check l ≡ by_check (head_check l) Refused (slots_check l (slots_of l) (width_of l))
+pub image-is : (l : List ℕ) → image_check l ≡ by_check (head_check l) Err (slots_check l (slots_of l) (width_of l))
 unfolding image_check head_check slots_check nameless
 image-is l =
     ⊎_elim
@@ -27,11 +26,11 @@ image-is l =
     (λ (f : shape_ok l ≡ false). rw f)
     (cases (shape_ok l))
 
-pub head-sized : (l : List ℕ) → head_check l ≡ Accepted → Sized l (slots_of l) (width_of l)
+pub head-sized : (l : List ℕ) → head_check l ≡ Ok tt → Sized l (slots_of l) (width_of l)
 unfolding head_check
-head-sized l a = shaped l (not-false (shape_ok l) (not-refused (not (shape_ok l)) BadSizes (refuse (not (clock_ok (clock_of l))) BadClock Accepted) a).0)
+head-sized l a = shaped l (not-false (shape_ok l) (not-refused (not (shape_ok l)) BadSizes (refuse (not (clock_ok (clock_of l))) BadClock (Ok tt)) a).0)
 
-pub image-sized : (l : List ℕ) → image_check l ≡ Accepted → Sized l (slots_of l) (width_of l)
+pub image-sized : (l : List ℕ) → image_check l ≡ Ok tt → Sized l (slots_of l) (width_of l)
 image-sized l a = head-sized l (both-accepted (head_check l) (slots_check l (slots_of l) (width_of l)) (sym (image-is l) ∙ a)).0
 
 -- ---- the front of a buffer into which bytes were decoded

@@ -5,7 +5,6 @@ pub mod Laws
 pub mod Sound
 pub mod Ordered
 pub mod Judging
-pub mod Parts
 pub mod Naming
 pub mod Checking
 pub mod InPlace

@@ -1,45 +1,50 @@
 -- The second pass over the slots, survivors by their names: what contracts say of a slot and of all, and the laws of the loop.
-use Rattle.std.specs.Prelude.{◌≡◌, ℕ, ◌+◌, ◌-◌, ◌*◌, ◌<◌, ◌≤◌, Bool, true, false, ◌||◌, ◌≢◌, List, length, nat_eq, slice_index_or, slice_set}
+use Rattle.std.specs.Prelude.{◌≡◌, ℕ, ◌+◌, ◌*◌, ◌<◌, ◌≤◌, Bool, true, false, ◌||◌, ◌≢◌, List, length, nat_eq, slice_index_or, slice_set, Result, Ok, Err}
 use Rattle.std.proofs.Math.Path.{refl, sym}
-use Rattle.std.proofs.Common.{ap, ◌∙◌, eq-or-lt_of_le, arith}
+use Rattle.std.proofs.Common.{◌∙◌, eq-or-lt_of_le, arith}
 use Rattle.std.proofs.Math.Logic.{⊎_elim}
 use Rattle.std.proofs.Math.Bool.{or-false}
 use Rattle.search.specs.Bools.{cases, never}
 use Rattle.search.specs.Some.{any_of, some_at, none-some, some_same, any-more}
+use Rattle.reply.specs.declared.Refusal.{Refusal}
 use Rattle.image.specs.Layout.{header, key_at}
 use Rattle.image.specs.declared.name.Name.{Name}
 use Rattle.image.specs.Name.{name_at, same_name, misnamed, misnamed-false, name-is}
 use Rattle.image.specs.Requires.{Slot, slot}
-use Rattle.chains.specs.Chains.{label_of, linked_at, pair_in, Lent, Blank, Linked}
+use Rattle.chains.specs.Chains.{linked_at, pair_in, Blank, Linked}
 use Rattle.chains.specs.Requires.{At, AllLinked}
 use Rattle.chains.specs.Carrying.{Carrying, carrying-start, carrying-skip, carrying-link, carried}
 use Rattle.survival.specs.Survivors.{survivor}
 use Rattle.survival.specs.Requires.{AllMarked}
 use Rattle.survival.specs.Laws.{flag_is}
-use Rattle.acceptance.specs.declared.marks.Verdict.{Verdict}
-use Rattle.acceptance.specs.declared.marks.Verdict.TheVariants.{Bad, Once}
 use Rattle.acceptance.specs.Accept.{survives_as, name_below}
 use Rattle.acceptance.specs.Requires.{nameless, some_nameless, name_twice}
-use Rattle.acceptance.specs.Judging.{is_bad, is_twice, Says}
+use Rattle.acceptance.specs.Judging.{Answer, refuses, finds}
 
 -- ---- one slot
 pub record Names (m s : ℕ) (l : List ℕ) : Type 0 where
   pub linked : Linked m s l
   pub within : s < m
 
-pub record NamedSlot (m : ℕ) (l : List ℕ) (s : ℕ) (name : Name) (l' : List ℕ) (r : Verdict) : Type 0 where
-  pub bad : is_bad r ≡ misnamed name
-  pub linked : is_bad r ≡ false → l' ≡ linked_at m l s name.key name.board
-  pub twice-is : is_bad r ≡ false → is_twice r ≡ any_of (pair_in l name.key name.board) s
+pub record NamedFine (m : ℕ) (l : List ℕ) (s : ℕ) (name : Name) (l' : List ℕ) (twice : Bool) : Type 0 where
+  pub named : misnamed name ≡ false
+  pub linked : l' ≡ linked_at m l s name.key name.board
+  pub twice-is : twice ≡ any_of (pair_in l name.key name.board) s
+
+abbrev pub NamedSlot : ℕ → List ℕ → ℕ → Name → List ℕ → Result Bool Refusal → Type 0
+NamedSlot m l s name l' = Answer (misnamed name ≡ true) (NamedFine m l s name l')
 
 pub record NamesMarked (img : List ℕ) (n w m s : ℕ) (l : List ℕ) (flags : List Bool) : Type 0 where
   pub names : Names m s l
   pub marked : AllMarked img n w flags
   pub slot : s < n
 
-pub record NamedAt (img : List ℕ) (n w m : ℕ) (l : List ℕ) (s : ℕ) (l' : List ℕ) (r : Verdict) : Type 0 where
-  pub gone : survivor img n s ≡ false → (l' ≡ slice_set l (4 * s + 2) 0) × (r ≡ Once)
-  pub named : survivor img n s ≡ true → NamedSlot m l s (name_at img n w s) l' r
+pub record NamedOne (img : List ℕ) (n w m : ℕ) (l : List ℕ) (s : ℕ) (l' : List ℕ) (twice : Bool) : Type 0 where
+  pub gone : survivor img n s ≡ false → (l' ≡ slice_set l (4 * s + 2) 0) × (twice ≡ false)
+  pub named : survivor img n s ≡ true → NamedFine m l s (name_at img n w s) l' twice
+
+abbrev pub NamedAt : List ℕ → ℕ → ℕ → ℕ → List ℕ → ℕ → List ℕ → Result Bool Refusal → Type 0
+NamedAt img n w m l s l' = Answer (nameless img n w s ≡ true) (NamedOne img n w m l s l')
 
 -- ---- all slots: room for the pass, and what it leaves
 pub record NamesRoom (img : List ℕ) (n w m : ℕ) (l : List ℕ) (flags : List Bool) : Type 0 where
@@ -47,16 +52,12 @@ pub record NamesRoom (img : List ℕ) (n w m : ℕ) (l : List ℕ) (flags : List
   pub fits : n ≤ m
   pub blank : Blank m l
 
--- the board of each survivor stands as its label
-pub record Boards (img : List ℕ) (n m : ℕ) (l : List ℕ) : Type 0 where
-  pub lent : Lent m l
-  pub fits : n ≤ m
-  pub boards : (t : ℕ) → t < n → survivor img n t ≡ true → label_of l t ≡ (header img t).board
+pub record NamedAll (img : List ℕ) (n w : ℕ) (twice : Bool) : Type 0 where
+  pub named : some_nameless img n w ≡ false
+  pub twice-is : twice ≡ name_twice img n w
 
-pub record Named (img : List ℕ) (n w m : ℕ) (l : List ℕ) (r : Verdict) : Type 0 where
-  pub bad : is_bad r ≡ some_nameless img n w
-  pub twice-is : is_bad r ≡ false → is_twice r ≡ name_twice img n w
-  pub boards : is_bad r ≡ false → Boards img n m l
+abbrev pub Named : List ℕ → ℕ → ℕ → Result Bool Refusal → Type 0
+Named img n w = Answer (some_nameless img n w ≡ true) (NamedAll img n w)
 
 -- ---- the ways out for one slot
 module _ {m s : ℕ} {l : List ℕ} (z : Names m s l) where
@@ -67,12 +68,12 @@ module _ {m s : ℕ} {l : List ℕ} (z : Names m s l) where
     pub names-all : b ≡ false → AllLinked m s name.key l
     names-all f = record { linked = z.linked; some = (misnamed-false name (sym e ∙ f)).some }
 
-    pub named-bad : b ≡ true → NamedSlot m l s name l Bad
-    named-bad t = record { bad = sym (sym e ∙ t); linked = λ f. never true refl f; twice-is = λ f. never true refl f }
+    pub named-bad : b ≡ true → misnamed name ≡ true
+    named-bad t = sym e ∙ t
 
-    pub named-fine : {t : Bool} {l' : List ℕ} {r : Verdict} → b ≡ false → t ≡ any_of (pair_in l name.key name.board) s
-        → l' ≡ linked_at m l s name.key name.board → Says t r → NamedSlot m l s name l' r
-    named-fine f p q v = record { bad = v.fine ∙ sym (sym e ∙ f); linked = λ g. q; twice-is = λ g. v.twice-is ∙ p }
+    pub named-fine : {t : Bool} {l' : List ℕ} → b ≡ false → t ≡ any_of (pair_in l name.key name.board) s
+        → l' ≡ linked_at m l s name.key name.board → NamedFine m l s name l' t
+    named-fine f p q = record { named = sym e ∙ f; linked = q; twice-is = p }
 
 module _ {img : List ℕ} {n w m s : ℕ} {l : List ℕ} {flags : List Bool} (z : NamesMarked img n w m s l flags) where
   pub marked-names : Names m s l
@@ -87,13 +88,17 @@ module _ {img : List ℕ} {n w m s : ℕ} {l : List ℕ} {flags : List Bool} (z 
   pub marked-flag : s < length flags
   marked-flag = omega (arith, z.slot, z.marked.flagged.long, z.marked.sized.sizes.slots-hi)
 
-  pub marked-yes : {name : Name} {l' : List ℕ} {r : Verdict} → slice_index_or flags s false ≡ true → name ≡ name_at img n w s → NamedSlot m l s name l' r
+  pub marked-yes : {name : Name} {l' : List ℕ} {r : Result Bool Refusal} → slice_index_or flags s false ≡ true → name ≡ name_at img n w s → NamedSlot m l s name l' r
       → NamedAt img n w m l s l' r
+  unfolding nameless
   marked-yes t e y =
       let a = flag_is z.marked.flagged z.slot t in
-      record { gone = λ f. never (survivor img n s) a f; named = λ g. rw (← e) y }
+      record {
+        refused = λ q. let v = y.refused q in (v.0, rw (a, ← e) v.1);
+        found = λ q. record { gone = λ f. never (survivor img n s) a f; named = λ g. rw (← e) (y.found q) };
+      }
 
-  pub marked-no : {l' : List ℕ} → slice_index_or flags s false ≡ false → l' ≡ slice_set l (4 * s + 2) 0 → NamedAt img n w m l s l' Once
+  pub marked-no : {l' : List ℕ} → slice_index_or flags s false ≡ false → l' ≡ slice_set l (4 * s + 2) 0 → NamedOne img n w m l s l' false
   marked-no t e =
       let a = flag_is z.marked.flagged z.slot t in
       record { gone = λ f. (e, refl); named = λ g. never (survivor img n s) g a }
@@ -178,44 +183,26 @@ module _ {img : List ℕ} {n w m i : ℕ} {l : List ℕ} {twice : Bool} (z : Nam
         })
 
   -- ---- a slot more
-  module _ {l' : List ℕ} {r : Verdict} {b : Bool} (h : i < n) (y : NamedAt img n w m l i l' r) (e : b ≡ is_bad r) where
-    pub naming-on : {twice' : Bool} → b ≡ false → twice' ≡ (twice || is_twice r) → Naming img n w m (i + 1) l' twice'
-    naming-on f q =
-        let fine : is_bad r ≡ false = sym e ∙ f in
-        ⊎_elim
-        (λ (k : survivor img n i ≡ true).
-        let v = y.named k in
-        rw q (naming-named k h (sym v.bad ∙ fine) (v.linked fine) (v.twice-is fine)))
-        (λ (g : survivor img n i ≡ false).
-        let v = y.gone g in
-        rw (q, v.1, or-false twice) (naming-gone g h v.0))
-        (cases (survivor img n i))
+  module _ {l' : List ℕ} {r : Result Bool Refusal} (h : i < n) (y : NamedAt img n w m l i l' r) where
+    pub naming-on : {b twice' : Bool} → r ≡ Ok b → twice' ≡ (twice || b) → Naming img n w m (i + 1) l' twice'
+    naming-on e q =
+        let v = y.found e in
+        rw q
+        (⊎_elim
+        (λ (k : survivor img n i ≡ true). let x = v.named k in naming-named k h x.named x.linked x.twice-is)
+        (λ (g : survivor img n i ≡ false). rw ((v.gone g).1, or-false twice) (naming-gone g h (v.gone g).0))
+        (cases (survivor img n i)))
 
-    pub naming-bad : b ≡ true → Named img n w m l' Bad
-    unfolding some_nameless nameless
-    naming-bad t =
-        let bad : is_bad r ≡ true = sym e ∙ t in
-        let k : survivor img n i ≡ true =
-        ⊎_elim
-        (λ (a : survivor img n i ≡ true). a)
-        (λ (g : survivor img n i ≡ false). never (is_bad r) bad (ap is_bad (y.gone g).1))
-        (cases (survivor img n i)) in
-        record {
-          bad = sym (some_at (nameless img n w) n i h (rw k (sym (y.named k).bad ∙ bad)));
-          twice-is = λ f. never true refl f;
-          boards = λ f. never true refl f;
-        }
+    pub naming-bad : {e : Refusal} → r ≡ Err e → Named img n w (Err e)
+    unfolding some_nameless
+    naming-bad e = let v = y.refused e in rw v.0 (refuses (some_at (nameless img n w) n i h v.1))
 
-  pub naming-end : {r : Verdict} → n ≤ i → Says twice r → Named img n w m l r
+  pub naming-end : n ≤ i → NamedAll img n w twice
   unfolding some_nameless name_twice
-  naming-end {r} a v =
+  naming-end a =
       let q : i ≡ n = omega (arith, z.low) in
-      record {
-        bad = v.fine ∙ sym (none-some (nameless img n w) n (λ t b. z.named t (omega arith)));
-        twice-is = λ f. v.twice-is ∙ z.twice-is ∙ (rw q);
-        boards = λ f. record { lent = z.carries.linked.lent; fits = z.fits; boards = λ t b k. z.carries.labels t (omega arith) k };
-      }
+      record { named = none-some (nameless img n w) n (λ t b. z.named t (omega arith)); twice-is = z.twice-is ∙ (rw q) }
 
-pub ruleset namings = (names_at, names-all, named-bad, named-fine, marked-names, marked-at, marked-slot, marked-flag, marked-yes, marked-no)
+pub ruleset namings = (refuses, finds, names_at, names-all, named-bad, named-fine, marked-names, marked-at, marked-slot, marked-flag, marked-yes, marked-no)
 
-pub ruleset names = (naming-start, naming-marked, naming-on, naming-bad, naming-end)
+pub ruleset names = (finds, naming-start, naming-marked, naming-on, naming-bad, naming-end)

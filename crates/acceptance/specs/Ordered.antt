@@ -1,5 +1,5 @@
 -- A header of four nonzero words, all in range: one test, and the laws of its function.
-use Rattle.std.specs.Prelude.{◌≡◌, ℕ, ◌+◌, ◌-◌, ◌%◌, ◌^◌, ◌<◌, ◌≤◌, Bool, true, false, not, ◌&&◌, leb, ◌⊎◌, nat_le}
+use Rattle.std.specs.Prelude.{◌≡◌, ℕ, ◌+◌, ◌-◌, ◌%◌, ◌^◌, ◌<◌, ◌≤◌, Bool, true, false, not, ◌&&◌, leb, nat_le}
 use Rattle.std.proofs.Common.{sym, ◌∙◌, ⊎_elim, le-leb, leb-true, leb-false, arith}
 use Rattle.std.proofs.lemmas.Bool.{lt-leb, not-true}
 use Rattle.search.specs.Bools.{cases, never, refuted, same_test, and_left, and_right, and_both}

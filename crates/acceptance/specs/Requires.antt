@@ -1,12 +1,10 @@
 -- What contracts inside are about: the parts of the check, the answers of the walks; and a buffer for an image's bytes.
-use Rattle.std.specs.Prelude.{◌≡◌, ℕ, ◌*◌, ◌/◌, ◌%◌, ◌≤◌, Bool, true, not, ◌&&◌, ◌||◌, List, length, ◌==◌, nat_le}
+use Rattle.std.specs.Prelude.{◌≡◌, ℕ, ◌*◌, ◌/◌, ◌%◌, ◌≤◌, Bool, true, not, ◌&&◌, ◌||◌, List, length, ◌==◌, nat_le, Ok}
 use Rattle.std.proofs.Common.{sym, ◌∙◌, leb-true, eqb-true, arith, div-add-mod'}
 use Rattle.search.specs.Bools.{and_left, and_right}
 use Rattle.search.specs.Some.{any_of, every}
-use Rattle.reply.specs.declared.Check.{Check}
-use Rattle.reply.specs.declared.Check.TheVariants.{Accepted}
 use Rattle.reply.specs.declared.Refusal.TheVariants.{BadSizes, BadClock, BadSlot, Duplicate}
-use Rattle.reply.specs.Refusals.{refuse}
+use Rattle.reply.specs.Refusals.{Check, refuse}
 use Rattle.image.specs.declared.header.Header.{Header}
 use Rattle.image.specs.Layout.{header, clock_of, shape_ok, clock_ok}
 use Rattle.image.specs.Name.{name_at, misnamed}
@@ -17,7 +15,7 @@ use Rattle.acceptance.specs.Questions.{bytes_ok}
 
 -- ---- the parts of `image_check`, in its words: refusals 1 and 2, 3 and 4, a survivor without a proper name
 unfoldable pub head_check : List ℕ → Check
-head_check l = refuse (not (shape_ok l)) BadSizes (refuse (not (clock_ok (clock_of l))) BadClock Accepted)
+head_check l = refuse (not (shape_ok l)) BadSizes (refuse (not (clock_ok (clock_of l))) BadClock (Ok tt))
 
 unfoldable pub nameless : List ℕ → ℕ → ℕ → ℕ → Bool
 nameless l n w s = survivor l n s && misnamed (name_at l n w s)
@@ -25,7 +23,7 @@ nameless l n w s = survivor l n s && misnamed (name_at l n w s)
 unfoldable pub slots_check : List ℕ → ℕ → ℕ → Check
 slots_check l n w =
     refuse (not (every (λ s. proper (clock_of l) (header l s)) n) || any_of (nameless l n w) n) BadSlot
-    (refuse (any_of (version_below (clock_of l) (header l)) n || any_of (name_below l n w) n) Duplicate Accepted)
+    (refuse (any_of (version_below (clock_of l) (header l)) n || any_of (name_below l n w) n) Duplicate (Ok tt))
 
 -- a kept header g with the uid and epoch of h
 unfoldable pub same_version : ℕ → Header → Header → Bool

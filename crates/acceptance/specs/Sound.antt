@@ -1,10 +1,9 @@
 -- What an accepted image is sure of, slot by slot.
-use Rattle.std.specs.Prelude.{◌≡◌, ℕ, ◌<◌, ◌≤◌, true, false, not, ◌||◌, leb, ◌⊎◌, List, nat_le}
+use Rattle.std.specs.Prelude.{◌≡◌, ℕ, ◌<◌, ◌≤◌, true, false, not, ◌||◌, leb, ◌⊎◌, List, nat_le, Ok}
 use Rattle.std.proofs.Common.{sym, ◌∙◌, inl, inr, ⊎_elim, leb-true, le-leb, eq-eqb}
 use Rattle.std.proofs.lemmas.Bool.{not-false}
 use Rattle.search.specs.Bools.{cases, never, and_left, and_right, and_both, or_left, or_right}
 use Rattle.search.specs.Some.{any_of, some-none, none-some, every, every-at, at_every}
-use Rattle.reply.specs.declared.Check.TheVariants.{Accepted}
 use Rattle.reply.specs.declared.Refusal.TheVariants.{BadSizes, BadClock, BadSlot, Duplicate}
 use Rattle.reply.specs.Refusals.{refuse, not-refused, both-accepted}
 use Rattle.image.specs.declared.header.Header.{Header}
@@ -21,15 +20,15 @@ pub record Sound (l : List ℕ) (n w : ℕ) : Type 0 where
   pub versions : (s : ℕ) → s < n → version_below (clock_of l) (header l) s ≡ false
   pub names : (s : ℕ) → s < n → name_below l n w s ≡ false
 
-pub sound : (l : List ℕ) (n w : ℕ) → slots_check l n w ≡ Accepted → Sound l n w
+pub sound : (l : List ℕ) (n w : ℕ) → slots_check l n w ≡ Ok tt → Sound l n w
 unfolding slots_check
 sound l n w e =
     let p = every (λ s. proper (clock_of l) (header l s)) n in
     let k = any_of (nameless l n w) n in
     let v = any_of (version_below (clock_of l) (header l)) n in
     let y = any_of (name_below l n w) n in
-    let one = not-refused (not p || k) BadSlot (refuse (v || y) Duplicate Accepted) e in
-    let two = not-refused (v || y) Duplicate Accepted one.1 in
+    let one = not-refused (not p || k) BadSlot (refuse (v || y) Duplicate (Ok tt)) e in
+    let two = not-refused (v || y) Duplicate (Ok tt) one.1 in
     record {
       all-proper = every-at (λ s. proper (clock_of l) (header l s)) n (not-false p (or_left (not p) k one.0));
       named = some-none (nameless l n w) n (or_right (not p) k one.0);
@@ -86,12 +85,12 @@ pub record Accepts (l : List ℕ) : Type 0 where
   pub sound : Sound l (slots_of l) (width_of l)
 
 -- from the check to the facts ..
-pub accepted-says : (l : List ℕ) → image_check l ≡ Accepted → Accepts l
+pub accepted-says : (l : List ℕ) → image_check l ≡ Ok tt → Accepts l
 unfolding head_check clock_ok
 accepted-says l e =
     let both = both-accepted (head_check l) (slots_check l (slots_of l) (width_of l)) (sym (image-is l) ∙ e) in
-    let shape = not-refused (not (shape_ok l)) BadSizes (refuse (not (clock_ok (clock_of l))) BadClock Accepted) both.0 in
-    let clock = not-false (clock_ok (clock_of l)) (not-refused (not (clock_ok (clock_of l))) BadClock Accepted shape.1).0 in
+    let shape = not-refused (not (shape_ok l)) BadSizes (refuse (not (clock_ok (clock_of l))) BadClock (Ok tt)) both.0 in
+    let clock = not-false (clock_ok (clock_of l)) (not-refused (not (clock_ok (clock_of l))) BadClock (Ok tt) shape.1).0 in
     record {
       sized = image-sized l e;
       clock-lo = leb-true 2 (clock_of l) (and_left (nat_le 2 (clock_of l)) _ clock);
@@ -109,7 +108,7 @@ says-shape l z =
     (eq-eqb _ _ z.long)
 
 -- .. and back
-pub says-accepted : (l : List ℕ) → Accepts l → image_check l ≡ Accepted
+pub says-accepted : (l : List ℕ) → Accepts l → image_check l ≡ Ok tt
 unfolding image_check clock_ok nameless
 says-accepted l a =
     let n = slots_of l in

@@ -1,20 +1,14 @@
 // The first pass over an image's slots: each header is judged, and kept ones meet those of their uid before them.
-ghost use Rattle.std.specs.Prelude.{◌≡◌, ◌≤◌, ◌&&◌, ◌||◌, nat_le};
+ghost use Rattle.std.specs.Prelude.{◌≡◌, ◌≤◌, ◌&&◌, nat_le};
 ghost use Rattle.acceptance.specs.Ordered.{ordered};
-ghost use Rattle.acceptance.specs.Judging.{is_bad, is_twice, Says, Judges, JudgesFilled, Over, JudgedSlot, Judged, Room};
-ghost use Rattle.acceptance.specs.Parts.{JudgesPart, JudgedPart};
+ghost use Rattle.acceptance.specs.Judging.{Judges, JudgesFilled, Over, JudgedFine, JudgedSlot, Judged, Room};
 
 use image::header::Header;
-
-// What a pass over the slots found: a slot that is refused, or two slots that are the same thing.
-#[derive(Clone, Copy)]
-pub enum Verdict {
-    Bad,
-    Once,
-    Twice,
-}
+use image::words::Words;
+use reply::Refusal;
 
 // Is it from `low` to `most`? One comparison: what is below `low` wraps to more.
+#[tactic(auto, using(crate::specs::Ordered::orders))]
 fn within(x: u32, low: u32, most: u32) -> bool
     requires { low ≤ most }
     ensures { result ≡ (nat_le low x && nat_le x most) }
@@ -23,6 +17,7 @@ fn within(x: u32, low: u32, most: u32) -> bool
 }
 
 // No word of it is 0, and all are in range.
+#[tactic(auto, using(crate::specs::Ordered::orders))]
 fn ordered(h: Header, c: u32) -> bool
     ensures { result ≡ ordered c h }
 {
@@ -39,33 +34,6 @@ fn ordered(h: Header, c: u32) -> bool
     false
 }
 
-pub fn verdict_of(twice: bool) -> Verdict
-    ensures { Says twice result }
-{
-    if twice { Verdict::Twice } else { Verdict::Once }
-}
-
-pub fn is_bad(v: Verdict) -> bool
-    ensures { result ≡ is_bad v }
-{
-    match v {
-        Verdict::Bad => true,
-        Verdict::Once => false,
-        Verdict::Twice => false,
-    }
-}
-
-// Was the same thing found so far, or now?
-pub fn or_twice(twice: bool, v: Verdict) -> bool
-    ensures { result ≡ (twice || is_twice v) }
-{
-    match v {
-        Verdict::Bad => twice,
-        Verdict::Once => twice,
-        Verdict::Twice => true,
-    }
-}
-
 // A slot that is not kept is on no chain, and does not survive.
 fn pass_over(l: &mut [u32], flags: &mut [bool; 1024], m: usize, s: usize)
     requires { Judges m s l.old flags.old }
@@ -75,7 +43,9 @@ fn pass_over(l: &mut [u32], flags: &mut [bool; 1024], m: usize, s: usize)
     flags[s] = false;
 }
 
-// A header of four nonzero words, all in range.
+// A header of four nonzero words, all in range. Is its version there before it?
+#[inline(always)]
+#[tactic(auto, using(crate::specs::Judging::judgements))]
 fn judge_filled(
     l: &mut [u32],
     flags: &mut [bool; 1024],
@@ -83,18 +53,20 @@ fn judge_filled(
     s: usize,
     c: u32,
     h: Header,
-) -> Verdict
+) -> bool
     requires { JudgesFilled m s c h l.old flags.old }
-    ensures { JudgedSlot m l.old s c h flags.old flags.new l.new result }
+    ensures { JudgedFine m l.old s c h flags.old flags.new l.new result }
 {
-    if image::shape::wide(h.epoch) + 2 <= image::shape::wide(c) {
-        return verdict_of(survival::rivals::admit(l, flags, m, s, h));
+    if h.epoch as usize + 2 <= c as usize {
+        return survival::rivals::admit(l, flags, m, s, h);
     }
     pass_over(l, flags, m, s);
-    Verdict::Once
+    false
 }
 
-// One slot, after `s` slots.
+// One slot, after `s` slots. Is its version there before it?
+#[inline(always)]
+#[tactic(auto, using(crate::specs::Judging::judgements))]
 fn judge_slot(
     l: &mut [u32],
     flags: &mut [bool; 1024],
@@ -102,53 +74,37 @@ fn judge_slot(
     s: usize,
     c: u32,
     h: Header,
-) -> Verdict
+) -> Result<bool, Refusal>
     requires { Judges m s l.old flags.old }
     ensures { JudgedSlot m l.old s c h flags.old flags.new l.new result }
 {
     if ordered(h, c) {
-        return judge_filled(l, flags, m, s, c, h);
+        return Ok(judge_filled(l, flags, m, s, c, h));
     }
-    if image::header::has_zero(h) {
+    if h.has_zero() {
         pass_over(l, flags, m, s);
-        return Verdict::Once;
+        return Ok(false);
     }
-    Verdict::Bad
+    Err(Refusal::BadSlot)
 }
 
-// The slots whose headers `part` begins with, after `at` slots. Words and bytes go through this one loop.
-pub fn judge_part(
-    part: &[u32],
+// All slots of an image. Is a version there twice?
+#[tactic(auto, using(crate::specs::Judging::judgings))]
+pub(crate) fn judge<W: Words>(
+    img: W,
     l: &mut [u32],
     flags: &mut [bool; 1024],
     m: usize,
-    at: usize,
-    count: usize,
-    c: u32,
-    before: bool,
-) -> Verdict
-    requires { JudgesPart m at count part.now l.old flags.old }
-    ensures { JudgedPart part.now m at count c before l.old flags.old l.new flags.new result }
+    n: usize,
+) -> Result<bool, Refusal>
+    requires { Room (W.words img) n m l.old flags.old }
+    ensures { Judged (W.words img) n m l.new flags.new result }
 {
-    let mut twice = before;
-    let mut i = 0;
-    while i < count {
-        let h = image::header::header_at(part, count, i);
-        let v = judge_slot(l, flags, m, at + i, c, h);
-        if is_bad(v) {
-            return Verdict::Bad;
-        }
-        twice = or_twice(twice, v);
-        i += 1;
+    let c = img.word(2);
+    let mut twice = false;
+    for s in 0..n {
+        let h = image::words::header(img, n, s);
+        twice |= judge_slot(l, flags, m, s, c, h)?;
     }
-    verdict_of(twice)
-}
-
-// All slots of an image.
-pub fn judge(img: &[u32], l: &mut [u32], flags: &mut [bool; 1024], m: usize, n: usize) -> Verdict
-    requires { Room img.now n m l.old flags.old }
-    ensures { Judged img.now n m l.new flags.new result }
-{
-    let c = image::shape::clock(img);
-    judge_part(img, l, flags, m, 0, n, c, false)
+    Ok(twice)
 }

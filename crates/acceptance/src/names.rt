@@ -1,63 +1,62 @@
 // The second pass over an image's slots: each survivor's name is judged, and held against those of the survivors before it.
 ghost use Rattle.acceptance.specs.Naming.{Names, NamesMarked, NamesRoom, NamedSlot, NamedAt, Named};
 
-use crate::marks::Verdict;
 use image::name::Name;
+use image::words::Words;
+use reply::Refusal;
 
 // One survivor, after `s` slots.
-pub fn name_slot(l: &mut [u32], m: usize, s: usize, name: Name) -> Verdict
+#[inline(always)]
+#[tactic(auto, using(crate::specs::Naming::namings))]
+fn name_slot(l: &mut [u32], m: usize, s: usize, name: Name) -> Result<bool, Refusal>
     requires { Names m s l.old }
     ensures { NamedSlot m l.old s name l.new result }
 {
-    if image::name::bad_name(name) {
-        return Verdict::Bad;
+    if name.is_bad() {
+        return Err(Refusal::BadSlot);
     }
     let twice = chains::paired(l, m, s, name.key, name.board);
     chains::link(l, m, s, name.key, name.board);
-    crate::marks::verdict_of(twice)
+    Ok(twice)
 }
 
 // One slot, which survives or not.
-fn name_marked(
-    img: &[u32],
+#[tactic(auto, using(crate::specs::Naming::namings))]
+fn name_marked<W: Words>(
+    img: W,
     l: &mut [u32],
     flags: &[bool; 1024],
     m: usize,
     n: usize,
     w: usize,
     s: usize,
-) -> Verdict
-    requires { NamesMarked img.now n w m s l.old flags.now }
-    ensures { NamedAt img.now n w m l.old s l.new result }
+) -> Result<bool, Refusal>
+    requires { NamesMarked (W.words img) n w m s l.old flags.now }
+    ensures { NamedAt (W.words img) n w m l.old s l.new result }
 {
     if flags[s] {
-        return name_slot(l, m, s, image::name::name_at(img, n, w, s));
+        return name_slot(l, m, s, image::words::name(img, n, w, s));
     }
     chains::skip(l, m, s);
-    Verdict::Once
+    Ok(false)
 }
 
-// All slots of an image.
-pub fn names(
-    img: &[u32],
+// All slots of an image. Is a name there twice?
+#[tactic(auto, using(crate::specs::Naming::names))]
+pub(crate) fn names<W: Words>(
+    img: W,
     l: &mut [u32],
     flags: &[bool; 1024],
     m: usize,
     n: usize,
     w: usize,
-) -> Verdict
-    requires { NamesRoom img.now n w m l.old flags.now }
-    ensures { Named img.now n w m l.new result }
+) -> Result<bool, Refusal>
+    requires { NamesRoom (W.words img) n w m l.old flags.now }
+    ensures { Named (W.words img) n w result }
 {
     let mut twice = false;
-    let mut s = 0;
-    while s < n {
-        let v = name_marked(img, l, flags, m, n, w, s);
-        if crate::marks::is_bad(v) {
-            return Verdict::Bad;
-        }
-        twice = crate::marks::or_twice(twice, v);
-        s += 1;
+    for s in 0..n {
+        twice |= name_marked(img, l, flags, m, n, w, s)?;
     }
-    crate::marks::verdict_of(twice)
+    Ok(twice)
 }

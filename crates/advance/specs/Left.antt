@@ -1,11 +1,9 @@
 -- How many lines an advance can still store, from a place on: a step that goes on has less left, so an advance ticks after at
 -- most `most_lines n` calls. Sync rests on it.
-use Rattle.std.specs.Prelude.{ℕ, zero, suc, ◌+◌, ◌*◌, ◌-◌, ◌≤◌, ◌<◌, ◌≡◌, true, false, cond, length, ltb, eqb}
+use Rattle.std.specs.Prelude.{ℕ, zero, suc, ◌+◌, ◌*◌, ◌-◌, ◌≤◌, ◌<◌, ◌≡◌, true, false, cond, length, ltb, eqb, Option, Some, None, Result, Ok, Err}
 use Rattle.std.proofs.Math.Path.{refl}
 use Rattle.std.proofs.Common.{sym, ◌∙◌, ⊎_elim, ne_eqb, ltb-true, arith}
 use Rattle.search.specs.Bools.{cases}
-use Rattle.search.specs.declared.Found.{Found}
-use Rattle.search.specs.declared.Found.TheVariants.{At, Nothing}
 use Rattle.search.specs.First.{where_found}
 use Rattle.search.specs.From.{Between}
 use Rattle.reply.specs.declared.Refusal.{Refusal}
@@ -20,7 +18,7 @@ use Rattle.transient.specs.Passed.{entry-with}
 use Rattle.index.specs.Laws.{removed-long}
 use Rattle.step.specs.declared.Place.{Place}
 use Rattle.step.specs.declared.Advance.{Advance}
-use Rattle.step.specs.declared.Advance.TheVariants.{WentOn, Ticked, Declined}
+use Rattle.step.specs.declared.Advance.TheVariants.{WentOn, Ticked}
 use Rattle.step.specs.Step.{idle, reclaim_next, contents_next, header_next, clock_next, Stepped, place, passing, reclaimed, contents_flushed, header_flushed, ticking, flush_from, reclaim_from, step}
 use Rattle.step.specs.Stages.{due_from, waiting_from}
 use Rattle.step.specs.From.{due-between, waiting-between}
@@ -121,21 +119,21 @@ module _ (z : Sizes) (st : Store) (c most : ℕ) where
   unfolding flush_from waiting_from contents_flushed left
   goes-flush p h m = go (waiting_from z st.transient c p) refl
     where
-      go : (f : Found) → waiting_from z st.transient c p ≡ f → Goes st z.n most (where_found f (contents_flushed z st) (ticking z st c))
-      go (At s) e =
+      go : (f : Option ℕ) → waiting_from z st.transient c p ≡ f → Goes st z.n most (where_found f (contents_flushed z st) (ticking z st c))
+      go (Some s) e =
           let b = waiting-between z st.transient c p e in
           let lo = b.from in
           let hi = b.below in
           record { slots = refl; long = refl; within = hi; on = λ _. omega arith; tick = λ q. different q }
-      go Nothing e = goes-ticking (omega arith)
+      go None e = goes-ticking (omega arith)
 
   goes-reclaim : (p : ℕ) → p < z.n → z.n - p + 2 * z.n + 1 ≤ most → Goes st z.n most (reclaim_from z st c p)
   unfolding reclaim_from due_from
   goes-reclaim p h m = go (due_from z (table_of st) c p) refl
     where
-      go : (f : Found) → due_from z (table_of st) c p ≡ f → Goes st z.n most (where_found f (reclaimed z st) (flush_from z st c 0))
-      go (At s) e = goes-reclaimed p s (due-between z (table_of st) c p e) m
-      go Nothing e = goes-flush 0 (omega arith) (omega arith)
+      go : (f : Option ℕ) → due_from z (table_of st) c p ≡ f → Goes st z.n most (where_found f (reclaimed z st) (flush_from z st c 0))
+      go (Some s) e = goes-reclaimed p s (due-between z (table_of st) c p e) m
+      go None e = goes-flush 0 (omega arith) (omega arith)
 
 -- a step that goes on lowers what is left
 pub step-goes : (z : Sizes) (st : Store) (c : ℕ) (p : Place) → p.slot < z.n → Goes st z.n (left z.n p) (step z st c p)
@@ -151,10 +149,10 @@ step-goes z st c p h =
     p.phase
 
 -- ---- the same of an advance call
-pub record Moves (st : Store) (x : Outcome Advance) : Type 0 where
+pub record Moves (st : Store) (x : Outcome (Result Advance Refusal)) : Type 0 where
   pub slots : slots_of x.store.working ≡ slots_of st.working
-  pub on : x.reply ≡ WentOn → lines_left (table_of x.store) < lines_left (table_of st)
-  pub tick : x.reply ≡ Ticked → (note phase_at x.store.transient ≡ idle) × (1 ≤ lines_left (table_of st))
+  pub on : x.reply ≡ Ok WentOn → lines_left (table_of x.store) < lines_left (table_of st)
+  pub tick : x.reply ≡ Ok Ticked → (note phase_at x.store.transient ≡ idle) × (1 ≤ lines_left (table_of st))
 
 -- a step from the notes' place, noted
 noted-moves : (z : Sizes) (st : Store) (x : Stepped) → slots_of st.working ≡ z.n → Notes st.transient z → note place_at st.transient < z.n
@@ -165,14 +163,17 @@ noted-moves z st x e m h g =
     let b = slot-set y x.place.phase x.place.slot in
     record {
       slots = g.slots;
-      on = λ q. rw (g.slots, e, a, b) (g.on q);
-      tick = λ q. (a ∙ g.tick q, rw e (left-low z.n (noted_place st.transient) h));
+      on = λ q. rw (g.slots, e, a, b) (g.on (given q));
+      tick = λ q. (a ∙ g.tick (given q), rw e (left-low z.n (noted_place st.transient) h));
     }
+  where
+    given : {q : Advance} → ◌≡◌ {A = Result Advance Refusal} (Ok x.reply) (Ok q) → x.reply ≡ q
+    given q = cc
 
-declined-on : {A : Type 0} {r : Refusal} → Declined r ≡ WentOn → A
+declined-on : {A : Type 0} {r : Refusal} → ◌≡◌ {A = Result Advance Refusal} (Err r) (Ok WentOn) → A
 declined-on e = let z : ◌≡◌ {A = ℕ} 0 1 = cc in absurd (omega arith)
 
-declined-tick : {A : Type 0} {r : Refusal} → Declined r ≡ Ticked → A
+declined-tick : {A : Type 0} {r : Refusal} → ◌≡◌ {A = Result Advance Refusal} (Err r) (Ok Ticked) → A
 declined-tick e = let z : ◌≡◌ {A = ℕ} 0 1 = cc in absurd (omega arith)
 
 slots-is : (st : Store) → slots_of st.working ≡ (sizes_of (table_of st)).n

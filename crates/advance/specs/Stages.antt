@@ -1,10 +1,8 @@
 -- The call cut as its code is cut: what the functions inside answer, and that the call is made of it.
-use Rattle.std.specs.Prelude.{ℕ, ◌+◌, ◌*◌, ◌≡◌, Bool, not, ◌&&◌, List, leb, eqb}
+use Rattle.std.specs.Prelude.{ℕ, ◌+◌, ◌*◌, ◌≡◌, Bool, not, ◌&&◌, List, leb, eqb, Result, Ok, Err}
 use Rattle.search.specs.Some.{any_of}
-use Rattle.reply.specs.declared.Check.{Check}
-use Rattle.reply.specs.declared.Check.TheVariants.{Accepted}
 use Rattle.reply.specs.declared.Refusal.TheVariants.{StillOpen, LastEpoch}
-use Rattle.reply.specs.Refusals.{refuse}
+use Rattle.reply.specs.Refusals.{Check, refuse}
 use Rattle.image.specs.Layout.{most_number, clock_of}
 use Rattle.transient.specs.declared.sizes.Sizes.{Sizes}
 use Rattle.transient.specs.Layout.{note, phase_at, place_at, open_epoch}
@@ -13,9 +11,9 @@ use Rattle.transient.specs.Entry.{entry_check}
 use Rattle.transient.specs.Passed.{two-checks}
 use Rattle.step.specs.declared.Place.{Place}
 use Rattle.step.specs.declared.Advance.{Advance}
-use Rattle.step.specs.declared.Advance.TheVariants.{Declined}
 use Rattle.step.specs.Step.{reclaim_next, clock_next, place, step}
 use Rattle.advance.specs.Advance.{noted, advance_check, advance}
+use Rattle.reply.specs.declared.Refusal.{Refusal}
 
 -- the lines of one advance at most
 abbrev pub most_lines : ℕ → ℕ
@@ -37,16 +35,16 @@ held_open z tr c = not (underway tr) && open_below tr z.t c
 
 -- 14 and 15
 unfoldable pub held_check : Sizes → List ℕ → ℕ → Check
-held_check z tr c = refuse (not (underway tr) && open_below tr z.t c) StillOpen (refuse (eqb c most_number) LastEpoch Accepted)
+held_check z tr c = refuse (not (underway tr) && open_below tr z.t c) StillOpen (refuse (eqb c most_number) LastEpoch (Ok tt))
 
-unfoldable pub advance_sized : Sizes → Store → Outcome Advance
+unfoldable pub advance_sized : Sizes → Store → Outcome (Result Advance Refusal)
 advance_sized z st =
-    after_check (held_check z st.transient (clock_of st.working)) Declined st
+    after_check (held_check z st.transient (clock_of st.working)) Err st
     (noted (step z st (clock_of st.working) (place (note phase_at st.transient) (note place_at st.transient))))
 
-pub advance-is : (st : Store) → advance st ≡ after_check (entry_check st) Declined st (advance_sized (sizes_of (table_of st)) st)
+pub advance-is : (st : Store) → advance st ≡ after_check (entry_check st) Err st (advance_sized (sizes_of (table_of st)) st)
 unfolding advance advance_check advance_sized held_check underway open_below
-advance-is st = two-checks (entry_check st) _ Declined st _
+advance-is st = two-checks (entry_check st) _ Err st _
 
 -- ---- operations that an advance or a sync has to wait for
 unfoldable pub is_open : List ℕ → ℕ → Bool

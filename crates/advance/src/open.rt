@@ -1,4 +1,6 @@
 // Operations that an advance or a sync has to wait for.
+#![tactic(auto, using(crate::specs::OpenExits::laws))]
+
 ghost use Rattle.std.specs.Prelude.{◌≡◌};
 ghost use Rattle.transient.specs.Requires.{Notes, ThreadOf};
 ghost use Rattle.advance.specs.Stages.{open_below, is_open, is_open_below, any_open};
@@ -17,7 +19,7 @@ fn is_open_below(transient: &[u32], z: Sizes, c: u32, thread: usize) -> bool
     ensures { result ≡ is_open_below transient.now c thread }
 {
     let e = transient::notes::open_epoch(transient, z, thread);
-    image::shape::wide(e) + 1 == image::shape::wide(c)
+    e as usize + 1 == c as usize
 }
 
 // Is any operation open?
@@ -25,12 +27,10 @@ pub fn any_open(transient: &[u32], z: Sizes) -> bool
     requires { Notes transient.now z }
     ensures { result ≡ any_open transient.now z.t }
 {
-    let mut thread = 0;
-    while thread < z.t {
+    for thread in 0..z.t {
         if is_open(transient, z, thread) {
             return true;
         }
-        thread += 1;
     }
     false
 }
@@ -40,12 +40,10 @@ pub fn open_below(transient: &[u32], z: Sizes, c: u32) -> bool
     requires { Notes transient.now z }
     ensures { result ≡ open_below transient.now z.t c }
 {
-    let mut thread = 0;
-    while thread < z.t {
+    for thread in 0..z.t {
         if is_open_below(transient, z, c, thread) {
             return true;
         }
-        thread += 1;
     }
     false
 }

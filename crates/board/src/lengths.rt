@@ -2,11 +2,12 @@
 ghost use Rattle.std.specs.Prelude.{◌≡◌};
 ghost use Rattle.board.specs.Calls.{image_length, transient_length};
 
+#[tactic(auto, using(crate::specs::Exits::laws))]
 pub fn board_image_words(slots: u32, words: u32) -> usize
     ensures { result ≡ image_length slots words }
 {
-    let n = image::shape::wide(slots);
-    let w = image::shape::wide(words);
+    let n = slots as usize;
+    let w = words as usize;
     if image::shape::sizes_ok(n, w) {
         image::shape::image_words(n, w)
     } else {
@@ -14,11 +15,12 @@ pub fn board_image_words(slots: u32, words: u32) -> usize
     }
 }
 
+#[tactic(auto, using(crate::specs::Exits::laws))]
 pub fn board_transient_words(slots: u32, threads: u32) -> usize
     ensures { result ≡ transient_length slots threads }
 {
-    let n = image::shape::wide(slots);
-    let t = image::shape::wide(threads);
+    let n = slots as usize;
+    let t = threads as usize;
     if image::shape::sizes_ok(n, 2) {
         if t < 1 {
             return 0;

@@ -1,4 +1,6 @@
 // The calls on jobs.
+#![tactic(auto, using(crate::specs::Exits::laws))]
+
 ghost use Rattle.std.specs.Prelude.{◌≡◌};
 ghost use Rattle.transient.specs.Store.{store, outcome};
 ghost use Rattle.transient.specs.Calls.{check_number};
@@ -13,15 +15,15 @@ ghost use Rattle.job_read.specs.Read.{read_job, read_number, read_position};
 ghost use Rattle.board.specs.Calls.{numbered};
 
 use job_batch::Batch;
-use reply::Check;
+use reply::Refusal;
 
 // 0 for accepted, else 01's number of the refusal.
-pub fn reply_number(k: Check) -> u32
+pub fn reply_number(k: Result<(), Refusal>) -> u32
     ensures { result ≡ check_number k }
 {
     match k {
-        Check::Accepted => 0,
-        Check::Refused(r) => reply::number(r),
+        Ok(()) => 0,
+        Err(r) => u32::from(r),
     }
 }
 

@@ -8,9 +8,8 @@ ghost use Rattle.queue_take.specs.Take.{take_entry};
 ghost use Rattle.queue_look.specs.Look.{look_entry};
 ghost use Rattle.board.specs.Calls.{numbered};
 
-use queue_append::Append;
-
 // The order number that the entry was given, or 2^32 plus the refusal.
+#[tactic(auto, using(crate::specs::Exits::laws))]
 pub fn board_append(
     working: &mut [u32],
     persistent: &[u32],
@@ -21,12 +20,13 @@ pub fn board_append(
     ensures { outcome result working.new persistent.now transient.new ≡ numbered append_number (append_entry (store working.old persistent.now transient.old) thread value.now) }
 {
     match queue_append::append_entry(working, persistent, transient, thread, value) {
-        Append::Given(order) => order as u64,
-        Append::Declined(r) => reply::declined(r),
+        Ok(order) => order as u64,
+        Err(r) => reply::declined(r),
     }
 }
 
 // 0 for accepted, else 01's number of the refusal.
+#[tactic(auto, using(crate::specs::Exits::laws))]
 pub fn board_take(
     working: &mut [u32],
     persistent: &[u32],

@@ -1,4 +1,6 @@
 // The calls that make changes lasting: advance, sync, and a word written back.
+#![tactic(auto, using(crate::specs::Exits::laws))]
+
 ghost use Rattle.std.specs.Prelude.{◌≡◌};
 ghost use Rattle.transient.specs.Store.{store, outcome};
 ghost use Rattle.transient.specs.Calls.{check_number};
@@ -8,23 +10,16 @@ ghost use Rattle.write_back.specs.WriteBack.{write_back};
 ghost use Rattle.board.specs.Calls.{numbered};
 
 use step::Advance;
-use sync::answer::Sync;
 
 // 0 went on, 1 ticked, or 2^32 plus the refusal.
 pub fn board_advance(working: &mut [u32], persistent: &mut [u32], transient: &mut [u32]) -> u64
     ensures { outcome result working.new persistent.new transient.new ≡ numbered advance_number (advance (store working.old persistent.old transient.old)) }
 {
     match advance::advance(working, persistent, transient) {
-        Advance::WentOn => 0,
-        Advance::Ticked => 1,
-        Advance::Declined(r) => reply::declined(r),
+        Ok(Advance::WentOn) => 0,
+        Ok(Advance::Ticked) => 1,
+        Err(r) => reply::declined(r),
     }
-}
-
-fn line_count(lines: usize) -> u64
-    ensures { result ≡ lines }
-{
-    lines as u64
 }
 
 // The lines stored, or 2^32 plus the refusal.
@@ -32,8 +27,8 @@ pub fn board_sync(working: &mut [u32], persistent: &mut [u32], transient: &mut [
     ensures { outcome result working.new persistent.new transient.new ≡ numbered sync_number (sync (store working.old persistent.old transient.old)) }
 {
     match sync::sync(working, persistent, transient) {
-        Sync::Done(lines) => line_count(lines),
-        Sync::Declined(r) => reply::declined(r),
+        Ok(lines) => lines as u64,
+        Err(r) => reply::declined(r),
     }
 }
 

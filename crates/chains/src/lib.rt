@@ -2,7 +2,7 @@
 //
 // The memory lent for m spots and m slots is four words for each: the head of the spot's chain, then for the slot the next one below it on
 // its chain, its number, which is 0 where it is not linked, and its label. A place in a chain is one more than a slot, and 0 at its end.
-#![tactic(auto)]
+#![tactic(auto, using(crate::specs::Exits::laws))]
 
 ghost use Rattle.std.specs.Prelude.{◌≡◌, ◌+◌, ◌*◌, ◌-◌, set};
 ghost use Rattle.search.specs.Some.{any_of};
@@ -14,7 +14,7 @@ pub fn spot(m: usize, x: u32) -> usize
     requires { Spots m }
     ensures { result ≡ spot m x }
 {
-    let a = image::shape::wide(x);
+    let a = x as usize;
     (a + a / 8192) * 2654435769 % 4294967296 * m / 4294967296
 }
 
@@ -24,14 +24,14 @@ fn head(l: &[u32], m: usize, x: u32) -> usize
     ensures { result ≡ head_of l.now (spot m x) }
 {
     let b = spot(m, x);
-    image::shape::wide(l[4 * b])
+    l[4 * b] as usize
 }
 
 fn below(l: &[u32], m: usize, s: usize) -> usize
     requires { At m s l.now }
     ensures { result ≡ below_of l.now s }
 {
-    image::shape::wide(l[4 * s + 1])
+    l[4 * s + 1] as usize
 }
 
 fn number(l: &[u32], m: usize, s: usize) -> u32
@@ -53,10 +53,8 @@ pub fn clear(l: &mut [u32], m: usize)
     requires { Lent m l.old }
     ensures { Blank m l.new }
 {
-    let mut b = 0;
-    while b < m {
+    for b in 0..m {
         l[4 * b] = 0;
-        b += 1;
     }
 }
 
@@ -77,10 +75,11 @@ pub fn link(l: &mut [u32], m: usize, s: usize, x: u32, y: u32)
     l[4 * s + 1] = l[4 * b];
     l[4 * s + 2] = x;
     l[4 * s + 3] = y;
-    l[4 * b] = image::shape::narrow(s + 1);
+    l[4 * b] = (s + 1) as u32;
 }
 
 // The highest place of the number `x`, from the place `from` of its chain on down.
+#[tactic(auto, using(crate::specs::Exits::laws, crate::specs::Walking::walks))]
 fn kin_from(l: &[u32], m: usize, i: usize, from: usize, x: u32) -> usize
     requires { OnChain m i from x l.now }
     ensures { Kin l.now x from result }
@@ -96,6 +95,7 @@ fn kin_from(l: &[u32], m: usize, i: usize, from: usize, x: u32) -> usize
 }
 
 // The highest place of the number among the `i` slots that were linked or skipped.
+#[tactic(auto, using(crate::specs::Exits::laws, crate::specs::Walking::walks))]
 pub fn kin(l: &[u32], m: usize, i: usize, x: u32) -> usize
     requires { AllLinked m i x l.now }
     ensures { Kin l.now x i result }
@@ -104,6 +104,7 @@ pub fn kin(l: &[u32], m: usize, i: usize, x: u32) -> usize
 }
 
 // The next place of the number below the place `k`.
+#[tactic(auto, using(crate::specs::Exits::laws, crate::specs::Walking::walks))]
 pub fn next_kin(l: &[u32], m: usize, i: usize, k: usize, x: u32) -> usize
     requires { OnKin m i k x l.now }
     ensures { Kin l.now x (k - 1) result }
@@ -112,6 +113,7 @@ pub fn next_kin(l: &[u32], m: usize, i: usize, k: usize, x: u32) -> usize
 }
 
 // Is there a slot of that number and label, from the highest place of the number on?
+#[tactic(auto, using(crate::specs::Exits::laws, crate::specs::Exits::pairs, crate::specs::Walking::meetings))]
 pub fn paired_from(l: &[u32], m: usize, i: usize, from: usize, x: u32, y: u32) -> bool
     requires { FromKin m i from x l.now }
     ensures { result ≡ any_of (pair_in l.now x y) i }

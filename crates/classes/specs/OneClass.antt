@@ -1,5 +1,5 @@
 -- 02, No. 1: the sum "is to be proved equal to N for every image that recovery accepts, with each slot in exactly one class".
-use Rattle.std.specs.Prelude.{ℕ, zero, suc, ◌+◌, ◌<◌, ◌≡◌, refl, Bool, List}
+use Rattle.std.specs.Prelude.{ℕ, zero, suc, ◌+◌, ◌<◌, ◌≡◌, refl, Bool, List, Ok}
 use Rattle.std.proofs.Common.{◌∙◌, arith}
 use Rattle.std.proofs.Math.Bool.{true, false, and-false}
 use Rattle.std.proofs.Math.Logic.{⊎_elim}
@@ -7,7 +7,6 @@ use Rattle.std.proofs.Math.Dec.{leb, ltb}
 use borrow.Author.Tests.{lt-ltb, le-ltb, leb-true, leb-false}
 use Rattle.search.specs.Bools.{cases, never, flag}
 use Rattle.search.specs.Count.{count, count-more}
-use Rattle.reply.specs.declared.Check.TheVariants.{Accepted}
 use Rattle.image.specs.declared.header.Header.{Header}
 use Rattle.image.specs.Layout.{has_zero, is_filled, is_payload, header, slots_of, clock_of}
 use Rattle.image.specs.Whole.{says-whole, filled-says, zero-unfilled}
@@ -112,12 +111,12 @@ module _ (l : List ℕ) (n s : ℕ) where
       in-new (record { free = whole; surviving = unkept-dies k; kept = rw k; new = rw (f.filled, young) }))
       (cases (leb (h.epoch + 2) c))
 
-sorted : (l : List ℕ) → image_check l ≡ Accepted → (s : ℕ) → s < slots_of l → Sorted l (slots_of l) s
+sorted : (l : List ℕ) → image_check l ≡ Ok tt → (s : ℕ) → s < slots_of l → Sorted l (slots_of l) s
 sorted l e s h =
     ⊎_elim (sorted-free l (slots_of l) s) (sorted-filled l (slots_of l) s) (proper-cases (clock_of l) (header l s) ((accepted-says l e).sound.all-proper s h))
 
 -- ---- the theorem
-pub one_class : (l : List ℕ) → image_check l ≡ Accepted → (s : ℕ) → s < slots_of l → OneClass l (slots_of l) s
+pub one_class : (l : List ℕ) → image_check l ≡ Ok tt → (s : ℕ) → s < slots_of l → OneClass l (slots_of l) s
 one_class l e s h = one_of (sorted l e s h)
 
 -- the four flags of a slot make 1
@@ -137,6 +136,6 @@ sum-up l n (suc k) h =
     rw (count-more (in_class Free l n) k, count-more (in_class Surviving l n) k, count-more (in_class Kept l n) k, count-more (in_class New l n) k)
     (omega (arith, one-flag (h k (omega arith))))
 
-pub total-slots : (l : List ℕ) → image_check l ≡ Accepted → total (head_count l (slots_of l)) ≡ slots_of l
+pub total-slots : (l : List ℕ) → image_check l ≡ Ok tt → total (head_count l (slots_of l)) ≡ slots_of l
 unfolding head_count
 total-slots l e = sum-up l (slots_of l) (slots_of l) (sorted l e)

@@ -1,5 +1,5 @@
 // The four classes of slots, and how many slots of an image are in each.
-#![tactic(auto)]
+#![tactic(auto, using(crate::specs::Exits::laws))]
 
 ghost use Rattle.std.specs.Prelude.{◌≡◌, not, ◌&&◌, ◌<◌, ◌+◌};
 ghost use Rattle.search.specs.Count.{count};
@@ -10,7 +10,7 @@ ghost use Rattle.classes.specs.Requires.{too_new};
 
 use image::header::Header;
 
-#[derive(Clone, Copy)]
+#[derive(Clone, Copy, Debug, PartialEq, Eq)]
 pub enum Class {
     Free,
     Surviving,
@@ -42,8 +42,8 @@ fn kept_only(h: Header, c: u32, survives: bool) -> bool
 fn too_new(h: Header, c: u32) -> bool
     ensures { result ≡ too_new c h }
 {
-    if image::header::filled(h) {
-        image::shape::wide(c) < image::shape::wide(h.epoch) + 2
+    if h.is_filled() {
+        (c as usize) < h.epoch as usize + 2
     } else {
         false
     }
@@ -57,7 +57,7 @@ fn in_class(img: &[u32], flags: &[bool; 1024], n: usize, s: usize, class: Class)
     let h = image::header::header_at(img, n, s);
     let c = image::shape::clock(img);
     match class {
-        Class::Free => image::header::has_zero(h),
+        Class::Free => h.has_zero(),
         Class::Surviving => flags[s],
         Class::Kept => kept_only(h, c, flags[s]),
         Class::New => too_new(h, c),
@@ -69,12 +69,10 @@ fn count_class(img: &[u32], flags: &[bool; 1024], n: usize, class: Class) -> u32
     ensures { result ≡ count (in_class class img.now n) n }
 {
     let mut k: u32 = 0;
-    let mut s = 0;
-    while s < n {
+    for s in 0..n {
         if in_class(img, flags, n, s, class) {
             k += 1;
         }
-        s += 1;
     }
     k
 }

@@ -1,5 +1,5 @@
 -- 01, "The image lister": what a program makes of the bytes it is given, and what it prints of a refusal.
-use Rattle.std.specs.Prelude.{ℕ, ◌/◌, not, List, ◌++◌, length}
+use Rattle.std.specs.Prelude.{ℕ, ◌/◌, not, List, ◌++◌, length, Result, Ok, Err}
 use Rattle.text.specs.Text.{ascii, decimal}
 use Rattle.reply.specs.declared.Refusal.{Refusal}
 use Rattle.reply.specs.declared.Refusal.TheVariants.{BadSizes}
@@ -7,17 +7,15 @@ use Rattle.reply.specs.Refusals.{refusal_number, refuse, by_check}
 use Rattle.image.specs.Bytes.{words_of}
 use Rattle.acceptance.specs.Accept.{image_check}
 use Rattle.acceptance.specs.Questions.{bytes_ok}
-use Rattle.console.specs.declared.Input.{Input}
-use Rattle.console.specs.declared.Input.TheVariants.{Image, Refused}
 
 -- "A byte count that fits no image is refused with 1"; then the refusals of the image; else it has so many words
-unfoldable pub input_of : List ℕ → Input
-input_of bytes = by_check (refuse (not (bytes_ok (length bytes))) BadSizes (image_check (words_of bytes))) Refused (Image (length bytes / 4))
+unfoldable pub input_of : List ℕ → Result ℕ Refusal
+input_of bytes = by_check (refuse (not (bytes_ok (length bytes))) BadSizes (image_check (words_of bytes))) Err (Ok (length bytes / 4))
 
 unfoldable pub refused_line : Refusal → List ℕ
 refused_line r = ascii "refused " ++ decimal (refusal_number r) ++ ascii "\n"
 
 -- "on a refusal only `refused` and the number, as `refused 1`"; else the text of the image
-abbrev pub printed : Input → List ℕ → List ℕ
-printed (Image k) text = text
-printed (Refused r) text = refused_line r
+abbrev pub printed : Result ℕ Refusal → List ℕ → List ℕ
+printed (Ok k) text = text
+printed (Err r) text = refused_line r

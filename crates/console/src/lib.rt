@@ -1,64 +1,113 @@
 // What the programs share: bytes from standard input, the image that they are, and the line of a refusal.
 #![tactic(auto)]
 
-ghost use Rattle.std.specs.Prelude.{◌≡◌, ◌≤◌, length};
-ghost use Rattle.io.specs.Counts.{IsPrefixLen};
-ghost use Rattle.text.specs.Putting.{Spelt};
-ghost use Rattle.console.specs.Console.{refused_line};
+ghost use Rattle.std.specs.Prelude.{◌≡◌, ℕ, List, ◌+◌, ◌≤◌, ◌++◌, length, Ok};
+ghost use Rattle.acceptance.specs.Accept.{image_check};
+ghost use Rattle.image.specs.Bytes.{words_of};
+ghost use Rattle.console.specs.Console.{input_of, refused_line, printed as printed_of};
 ghost use Rattle.console.specs.Requires.{Taken};
 
-use reply::{Check, Refusal};
+use reply::Refusal;
+use std::io::{Read, Write};
+use text::Text;
 
-// The file descriptors of standard input and output.
-const STDIN: i32 = 0;
-
-pub const STDOUT: i32 = 1;
-
-// An image that recovery accepts, as the first so many words of a buffer; or why there is none.
-#[derive(Clone, Copy)]
-pub enum Input {
-    Image(usize),
-    Refused(Refusal),
-}
-
-// Is there a byte more than the largest image has?
-fn more_input() -> bool {
-    let mut next = [0u8; 1];
-    0 < io::read_full(STDIN, &mut next)
-}
-
-// Reads standard input to its end. More than `bytes` has room for counts as none: both are refused with 1.
-pub fn read_bytes(bytes: &mut [u8]) -> usize
-    ensures { IsPrefixLen result bytes.new }
+// Reads until the buffer is full, the input ends or a read fails, and says how many bytes are at its start.
+fn read_full<R: Read>(input: &mut R, bytes: &mut [u8]) -> usize
+    ensures { result ≤ length bytes.new }
 {
-    let n = io::read_full(STDIN, bytes);
-    if more_input() {
+    let mut done = 0;
+    while done < bytes.len() {
+        match input.read(&mut bytes[done..]) {
+            Ok(n) if 0 < n => done += n,
+            _ => break,
+        }
+    }
+    done
+}
+
+// Reads the input to its end. More than `bytes` has room for counts as none: both are refused with 1.
+pub fn read_bytes<R: Read>(input: &mut R, bytes: &mut [u8]) -> usize
+    ensures { result ≤ length bytes.new }
+{
+    let n = read_full(input, bytes);
+    let mut next = [0u8; 1];
+    if 0 < read_full(input, &mut next) {
         return 0;
     }
     n
 }
 
 // Decodes the bytes into `words`, which have room for the largest image, and judges them.
-pub fn judge(bytes: &[u8], words: &mut [u32]) -> Input
+#[tactic(auto, using(crate::specs::Exits::laws))]
+pub fn judge(bytes: &[u8], words: &mut [u32]) -> Result<usize, Refusal>
     requires { length words.old ≡ 13315 }
     ensures { Taken bytes.now result words.new }
 {
     if acceptance::questions::bytes_ok(bytes.len()) {
         let k = bytes.len() / 4;
         image::bytes::decode(bytes, words, k);
-        match acceptance::check(&words[..k]) {
-            Check::Refused(r) => Input::Refused(r),
-            Check::Accepted => Input::Image(k),
-        }
+        acceptance::check(&words[..k])?;
+        Ok(k)
     } else {
-        Input::Refused(Refusal::BadSizes)
+        Err(Refusal::BadSizes)
     }
 }
 
-pub fn refused_line(out: &mut [u8], r: Refusal) -> usize
-    requires { 64 ≤ length out.old }
-    ensures { Spelt out.old (refused_line r) out.new result }
+// The line of a refusal.
+#[tactic(auto, using(crate::specs::Exits::laws))]
+pub fn push_refusal<const N: usize>(out: &mut Text<N>, r: Refusal)
+    requires { length out.old + 64 ≤ N }
+    ensures { out.new ≡ out.old ++ refused_line r }
 {
-    let k = text::put_figure(out, 0, b"refused ", text::wide(reply::number(r)));
-    text::put(out, k, b"\n")
+    out.push_figure(b"refused ", u64::from(u32::from(r)));
+    out.push(b"\n");
+}
+
+// What a program prints, in a text that has room for N bytes.
+pub trait Report<const N: usize> {
+    // of the bytes that were read
+    ghost printed: { List ℕ → List ℕ };
+
+    // of an image, and how long that is at most
+    ghost text: { List ℕ → List ℕ };
+
+    ghost most: { ℕ };
+
+    // Pushes the text of an image that recovery accepts.
+    fn push(out: &mut Text<N>, img: &[u32])
+        requires accepted { image_check img.now ≡ Ok tt }
+        requires in_bounds { length out.old + most ≤ N }
+        ensures { out.new ≡ out.old ++ text img.now };
+
+    ghost prints: { (bytes : List ℕ) → printed bytes ≡ printed_of (input_of bytes) (text (words_of bytes)) };
+}
+
+// What is printed of the bytes that were read: the text of the image, or the refusal.
+#[tactic(auto, using(crate::specs::Exits::laws))]
+pub fn push_report<const N: usize, P: Report<N>>(out: &mut Text<N>, bytes: &[u8], words: &mut [u32])
+    requires words_len { length words.old ≡ 13315 }
+    requires refusal_in_bounds { length out.old + 64 ≤ N }
+    requires in_bounds { length out.old + P.most ≤ N }
+    ensures { out.new ≡ out.old ++ P.printed bytes.now }
+{
+    match judge(bytes, words) {
+        Err(r) => push_refusal(out, r),
+        Ok(k) => P::push(out, &words[..k]),
+    }
+}
+
+// Reads the input to its end, and writes what the program prints of it. A write that fails makes no difference.
+pub fn run<const N: usize, P: Report<N>, R: Read, W: Write>(
+    input: &mut R,
+    output: &mut W,
+    out: &mut Text<N>,
+)
+    requires refusal_in_bounds { length out.old + 64 ≤ N }
+    requires in_bounds { length out.old + P.most ≤ N }
+{
+    let mut bytes = [0u8; 53260];
+    let mut words = [0u32; 13315];
+    let n = read_bytes(input, &mut bytes);
+    push_report::<N, P>(out, &bytes[..n], &mut words);
+    let _ = output.write_all(out.as_bytes());
 }

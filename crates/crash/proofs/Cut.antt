@@ -1,13 +1,12 @@
 -- A cut: what recovery makes of the persistent entries, in terms of what was visible at the clock less 2.
-use Rattle.std.specs.Prelude.{ℕ, ◌+◌, ◌≤◌, ◌≡◌, ◌≢◌, ◌⊎◌, ◌↔◌}
+use Rattle.std.specs.Prelude.{ℕ, ◌+◌, ◌≤◌, ◌≡◌, ◌≢◌, ◌⊎◌, ◌↔◌, Some}
 use Rattle.std.proofs.Common.{sym, ◌∙◌, inl, inr, arith}
 use Rattle.std.proofs.Math.Logic.Iff.{trans as Iff-trans}
-use Rattle.std.proofs.Math.Option.{some}
 use Rattle.std.proofs.Math.Decide.{ℕ_discrete, dec_le}
 use Rattle.image.specs.declared.name.Name.{Name}
 use Rattle.image.specs.Name.{Named}
 use Rattle.crash.specs.Reference.{jobs_at}
-use Rattle.crash.specs.Slots.{Value, Slot, State, Filled, SameHead, SameLine, Live, Visible, Shows, Kin, Inv}
+use Rattle.crash.specs.Slots.{Value, State, Filled, SameHead, SameLine, Live, Visible, Shows, Kin, Inv}
 use Rattle.crash.specs.Steps.{Kept, Survives}
 use Rattle.crash.specs.Cut.{CutAt, CutShows}
 use Rattle.crash.proofs.OneSlot.{slotty, proper-whole, same-named}
@@ -116,5 +115,5 @@ module _ {st : State} (i : Inv st) {e : ℕ} (c : CutAt e st) where
   )
 
   -- .. and those of the reference map at e
-  pub cut-jobs : (k : Name) (v : Value) → CutShows e st.slots k v ↔ (jobs_at e st.start st.row k ≡ some v)
+  pub cut-jobs : (k : Name) (v : Value) → CutShows e st.slots k v ↔ (jobs_at e st.start st.row k ≡ Some v)
   cut-jobs k v = Iff-trans (holds k v) (i.shown e (omega arith) (omega arith) k v)

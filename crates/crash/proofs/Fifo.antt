@@ -1,8 +1,7 @@
 -- First in, first out: what one more entry of the row owes, and that the front of the working slots is the front at every threshold
 -- from its operation's epoch on.
-use Rattle.std.specs.Prelude.{ℕ, ◌+◌, ◌≤◌, ◌≡◌, refl, ◌≢◌, List, [], ◌∷◌, ◌++◌}
+use Rattle.std.specs.Prelude.{ℕ, ◌+◌, ◌≤◌, ◌≡◌, refl, ◌≢◌, List, [], ◌∷◌, ◌++◌, Option, None, Some}
 use Rattle.std.proofs.Common.{ap, ◌∙◌, inl, inr, arith}
-use Rattle.std.proofs.Math.Option.{Option, none, some}
 use Rattle.std.proofs.Math.Decide.{dec_le}
 use Rattle.image.specs.Layout.{queue_board}
 use Rattle.image.specs.declared.name.Name.{Name}
@@ -39,10 +38,10 @@ fifo-none e start before after ch q = absurd (no-split before after ch q)
 
 -- one more entry: a take owes that it took the front
 pub fifo-snoc : (e : ℕ) (start : Jobs) (row : List Change) (x : Change) → Fifo e start row
-    → (x.name.board ≡ queue_board → x.value ≡ none → x.epoch ≤ e → Front (jobs_at e start row) x.name.key) → Fifo e start (row ++ (x ∷ []))
+    → (x.name.board ≡ queue_board → x.value ≡ None → x.epoch ≤ e → Front (jobs_at e start row) x.name.key) → Fifo e start (row ++ (x ∷ []))
 fifo-snoc e start row x all last before after ch q = go (cut row x before after ch q)
   where
-    go : Cut row x before after ch → ch.name.board ≡ queue_board → ch.value ≡ none → ch.epoch ≤ e → Front (jobs_at e start before) ch.name.key
+    go : Cut row x before after ch → ch.name.board ≡ queue_board → ch.value ≡ None → ch.epoch ≤ e → Front (jobs_at e start before) ch.name.key
     go (at-end p s) b v l = rw (p, s) (last (rw (← s) b) (rw (← s) v) (rw (← s) l))
     go (earlier rest p) b v l = all before rest ch p b v l
 
@@ -67,7 +66,7 @@ module _ {e r : ℕ} {st : State} (i : Inv st) (t : Foremost e r st) where
       let shown = i.shown d h hi in
       let begun = t.newest r t.of.payload.0 t.board-is in
       let v = (st.slots r).working.value in
-      let is : jobs_at d st.start st.row (entry_name key) ≡ some v =
+      let is : jobs_at d st.start st.row (entry_name key) ≡ Some v =
       (shown (entry_name key) v).0 (record {
         at = r;
         holds = record {
@@ -81,9 +80,9 @@ module _ {e r : ℕ} {st : State} (i : Inv st) (t : Foremost e r st) where
         smallest = λ k some-k. least k (jobs_at d st.start st.row (entry_name k)) refl some-k;
       }
     where
-      least : (k : ℕ) (o : Option Value) → jobs_at d st.start st.row (entry_name k) ≡ o → jobs_at d st.start st.row (entry_name k) ≢ none → key ≤ k
-      least k none q n = absurd (n q)
-      least k (some v) q n =
+      least : (k : ℕ) (o : Option Value) → jobs_at d st.start st.row (entry_name k) ≡ o → jobs_at d st.start st.row (entry_name k) ≢ None → key ≤ k
+      least k None q n = absurd (n q)
+      least k (Some v) q n =
           let a = (i.shown d h (omega (arith, t.of.operation.epoch-lo)) (entry_name k) v).1 q in
           let b = ap (λ (x : Name). x.board) a.holds.name-is in
           omega (arith, t.smallest a.at a.holds.visible.payload (entry-live d a.at l a.holds.visible b) b, key-same a.holds.name-is)

@@ -1,6 +1,5 @@
 -- A change of a version in its own slot and epoch keeps the invariant: in general, where the version keeps its uid, and a set.
-use Rattle.std.specs.Prelude.{ℕ, ◌≤◌, ◌<◌, refl, ◌≢◌}
-use Rattle.std.proofs.Math.Option.{Option, some}
+use Rattle.std.specs.Prelude.{ℕ, ◌≤◌, ◌<◌, refl, ◌≢◌, Option, Some}
 use Rattle.std.proofs.Common.{arith}
 use Rattle.crash.specs.Slots.{Value, Entry, Slot, State, Proper, Inv}
 use Rattle.crash.specs.Steps.{entry, rewritten, after, revalued, InPlace}
@@ -51,5 +50,5 @@ module _ {kind : ℕ} {w : Value} {e r now before : ℕ} {st : State} {g : ℕ �
       (λ m h l a. search arith)
 
 pub set-inv : {v : Value} {e r now before : ℕ} {st : State} {g : ℕ → Slot} → Inv st → InPlace (revalued v (st.slots r).working) e r now before st g
-    → Inv (after st g st.uid st.order e (st.slots r).working.name (some v))
+    → Inv (after st g st.uid st.order e (st.slots r).working.name (Some v))
 set-inv i t = kept-uid-inv i t (omega arith) (omega arith) (tells-value t.of.payload refl)

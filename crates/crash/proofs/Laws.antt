@@ -1,8 +1,7 @@
 -- Laws of the reference map: what one more entry of the row changes, and that epochs after the last change agree.
-use Rattle.std.specs.Prelude.{ℕ, ◌≤◌, ◌<◌, ◌≡◌, refl, ◌≢◌, ◌⊎◌, ◌↔◌, List, [], ◌∷◌, ◌++◌, cond, leb}
+use Rattle.std.specs.Prelude.{ℕ, ◌≤◌, ◌<◌, ◌≡◌, refl, ◌≢◌, ◌⊎◌, ◌↔◌, List, [], ◌∷◌, ◌++◌, cond, leb, Some}
 use Rattle.std.proofs.Common.{ap, ◌∙◌, inl, inr, arith, le-leb}
 use mathlib.Core.List.Memᴰ
-use Rattle.std.proofs.Math.Option.{some}
 use Rattle.std.proofs.Math.Decide.{dec_le}
 use Rattle.std.proofs.lemmas.Bool.{lt-leb}
 use Rattle.image.specs.declared.name.Name.{Name}
@@ -52,16 +51,16 @@ late-snoc c row x h all ch m = elim (Memᴰ.append_cases row m) [ inl w ↦ all 
 
 -- S and S' say what is seen at e before and after a change; first what it leaves as it was, then what it is seen by
 pub shown-step : (S S' : Name → Value → Type 0) (start : Jobs) (row : List Change) (ch : Change) (e : ℕ)
-    → ((k : Name) (v : Value) → S k v ↔ (jobs_at e start row k ≡ some v))
+    → ((k : Name) (v : Value) → S k v ↔ (jobs_at e start row k ≡ Some v))
     → ((k : Name) (v : Value) → (e < ch.epoch) ⊎ (k ≢ ch.name) → S k v ↔ S' k v)
-    → (ch.epoch ≤ e → (v : Value) → S' ch.name v ↔ (ch.value ≡ some v))
-    → (k : Name) (v : Value) → S' k v ↔ (jobs_at e start (row ++ (ch ∷ [])) k ≡ some v)
+    → (ch.epoch ≤ e → (v : Value) → S' ch.name v ↔ (ch.value ≡ Some v))
+    → (k : Name) (v : Value) → S' k v ↔ (jobs_at e start (row ++ (ch ∷ [])) k ≡ Some v)
 shown-step S S' start row ch e was quiet loud k v = go (dec_le ch.epoch e) (name-dec k ch.name)
   where
-    same : (e < ch.epoch) ⊎ (k ≢ ch.name) → S' k v ↔ (jobs_at e start (row ++ (ch ∷ [])) k ≡ some v)
+    same : (e < ch.epoch) ⊎ (k ≢ ch.name) → S' k v ↔ (jobs_at e start (row ++ (ch ∷ [])) k ≡ Some v)
     same h = rw (jobs-other e start row ch k h) (λ x. (was k v).0 ((quiet k v h).1 x), λ x. (quiet k v h).0 ((was k v).1 x))
 
-    go : Dec (ch.epoch ≤ e) → Dec (k ≡ ch.name) → S' k v ↔ (jobs_at e start (row ++ (ch ∷ [])) k ≡ some v)
+    go : Dec (ch.epoch ≤ e) → Dec (k ≡ ch.name) → S' k v ↔ (jobs_at e start (row ++ (ch ∷ [])) k ≡ Some v)
     go (no a) d = same (inl (omega arith))
     go (yes a) (no b) = same (inr b)
     go (yes a) (yes b) = rw (jobs-hit e start row ch k a b, b) (loud a v)

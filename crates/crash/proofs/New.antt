@@ -1,7 +1,6 @@
 -- A new ALLOC keeps the invariant: its uid is fresh, and every earlier version of its name is retired by then.
-use Rattle.std.specs.Prelude.{ℕ, suc, ◌≤◌, ◌≡◌, refl}
+use Rattle.std.specs.Prelude.{ℕ, suc, ◌≤◌, ◌≡◌, refl, Some}
 use Rattle.std.proofs.Common.{◌∙◌, arith}
-use Rattle.std.proofs.Math.Option.{some}
 use Rattle.image.specs.declared.name.Name.{Name}
 use Rattle.crash.specs.Slots.{Value, Slot, State, Payload, Inv}
 use Rattle.crash.specs.Steps.{entry, filled, after, New}
@@ -18,7 +17,7 @@ module _ {e s order : ℕ} {k : Name} {v : Value} {now before : ℕ} {st : State
       omega (arith, t.no-later a.at a.holds.filled (uid-name i a.at m a.holds.filled p.0 a.holds.uid-is ∙ q))
 
   -- the new entry
-  write : Write e s (suc st.uid) order k (some v) (entry 1 e st.uid k v) 0 now before st
+  write : Write e s (suc st.uid) order k (Some v) (entry 1 e st.uid k v) 0 now before st
   write = record {
     operation = t.operation;
     joins = t.joins;
@@ -39,5 +38,5 @@ module _ {e s order : ℕ} {k : Name} {v : Value} {now before : ℕ} {st : State
     lone = λ d l w q. omega (slotty, given-way m w.payload q);
   }
 
-  pub new-inv : Inv (after st g (suc st.uid) order e k (some v))
+  pub new-inv : Inv (after st g (suc st.uid) order e k (Some v))
   new-inv = write-inv i write t.put (λ m _. behind m) (omega arith) t.orders (λ m _ h w. absurd (omega arith))

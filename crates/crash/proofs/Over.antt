@@ -1,7 +1,6 @@
 -- A set or a delete of an older version, by a new UPDATE or DELETE, keeps the invariant: the old version is retired in its epoch.
-use Rattle.std.specs.Prelude.{ℕ, ◌≤◌, ◌<◌, ◌≡◌, refl, ◌≢◌, ◌⊎◌, ◌↔◌}
+use Rattle.std.specs.Prelude.{ℕ, ◌≤◌, ◌<◌, ◌≡◌, refl, ◌≢◌, ◌⊎◌, ◌↔◌, Option, Some}
 use Rattle.std.proofs.Common.{sym, inl, inr, arith}
-use Rattle.std.proofs.Math.Option.{Option, some}
 use Rattle.image.specs.declared.name.Name.{Name}
 use Rattle.crash.specs.Table.{Any, every-put2, pairwise-put2, any-first, any-second, any-keep2, any-case2}
 use Rattle.crash.proofs.Laws.{late-snoc, shown-step}
@@ -101,7 +100,7 @@ module _ {kind e s r : ℕ} {v : Value} {u : Option Value} {now before : ℕ} {s
   )
 
   -- from e on the job is shown as the row has it
-  loud : (d : ℕ) → e ≤ d → (w : Value) → Shows g d name w ↔ (u ≡ some w)
+  loud : (d : ℕ) → e ≤ d → (w : Value) → Shows g d name w ↔ (u ≡ Some w)
   loud d l w = (
     any-case2 t.put (write-tells i write d l w).0 (λ q. absurd (behind-old.lone d l q.visible q.name-is))
         (λ m _ h q. absurd ((behind m h).lone d l q.visible q.name-is)),

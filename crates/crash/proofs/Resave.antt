@@ -1,8 +1,7 @@
 -- A set of the value that the live version has keeps the invariant, though no slot changes: with no newer slot of the name, the value is
 -- the same at every threshold from the operation's epoch on.
-use Rattle.std.specs.Prelude.{ℕ, ◌≤◌, ◌≡◌, refl, ◌↔◌}
+use Rattle.std.specs.Prelude.{ℕ, ◌≤◌, ◌≡◌, refl, ◌↔◌, Some}
 use Rattle.std.proofs.Common.{ap, inl, arith}
-use Rattle.std.proofs.Math.Option.{some}
 use Rattle.std.proofs.Math.Decide.{ℕ_discrete}
 use Rattle.image.specs.declared.name.Name.{Name}
 use Rattle.crash.proofs.Laws.{late-snoc, shown-step}
@@ -18,10 +17,10 @@ module _ {e r : ℕ} {st : State} (i : Inv st) (t : Resave e r st) where
   name = held.name
 
   -- from e on the version shows its job, and no other slot does
-  loud : (d : ℕ) → e ≤ d → (w : Value) → Shows st.slots d name w ↔ (some held.value ≡ some w)
+  loud : (d : ℕ) → e ≤ d → (w : Value) → Shows st.slots d name w ↔ (Some held.value ≡ Some w)
   loud d l w = (
     λ a. elim (ℕ_discrete a.at r) [
-      | yes q ↦ ap some (rw q at a.holds.value-is)
+      | yes q ↦ ap Some (rw q at a.holds.value-is)
       | no q ↦ absurd (current-lone i t.of d a.at q (omega (arith, t.begun)) a.holds.visible a.holds.name-is)
     ],
     λ q. record {
@@ -30,7 +29,7 @@ module _ {e r : ℕ} {st : State} (i : Inv st) (t : Resave e r st) where
     },
   )
 
-  pub resave-inv : Inv (after st st.slots st.uid st.order e name (some held.value))
+  pub resave-inv : Inv (after st st.slots st.uid st.order e name (Some held.value))
   resave-inv = record {
     clock-lo = i.clock-lo;
     uid-lo = i.uid-lo;

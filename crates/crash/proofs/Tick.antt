@@ -1,7 +1,6 @@
 -- The clock goes on and keeps the invariant.
-use Rattle.std.specs.Prelude.{ℕ, suc, ◌+◌, ◌≤◌, ◌≡◌, ◌↔◌}
+use Rattle.std.specs.Prelude.{ℕ, suc, ◌+◌, ◌≤◌, ◌≡◌, ◌↔◌, Some}
 use Rattle.std.proofs.Math.Logic.Iff.{trans as Iff-trans}
-use Rattle.std.proofs.Math.Option.{some}
 use Rattle.std.proofs.Common.{arith}
 use Rattle.std.proofs.Math.Decide.{dec_le}
 use Rattle.image.specs.declared.name.Name.{Name}
@@ -62,7 +61,7 @@ module _ {st : State} {g : ℕ → Slot} (i : Inv st) (t : Tick st g) where
 
   -- the reference map at the thresholds of the new clock
   shown : (e : ℕ) → e ≤ suc st.clock → suc st.clock ≤ e + 2 → (k : Name) (v : Value)
-      → Shows st.slots e k v ↔ (jobs_at e st.start st.row k ≡ some v)
+      → Shows st.slots e k v ↔ (jobs_at e st.start st.row k ≡ Some v)
   shown e lo hi k v = elim (dec_le e st.clock) [
     | yes a ↦ i.shown e a (omega arith) k v
     | no a ↦

@@ -1,7 +1,6 @@
 -- An operation of epoch e writes an entry of the job k into slot s.
-use Rattle.std.specs.Prelude.{ℕ, ◌+◌, ◌≤◌, ◌<◌, ◌≡◌, ◌≢◌, ◌⊎◌, ◌↔◌}
+use Rattle.std.specs.Prelude.{ℕ, ◌+◌, ◌≤◌, ◌<◌, ◌≡◌, ◌≢◌, ◌⊎◌, ◌↔◌, Option, None, Some}
 use Rattle.std.proofs.Common.{ap, sym, ◌∙◌, inl, inr, arith}
-use Rattle.std.proofs.Math.Option.{Option, none, some}
 use Rattle.image.specs.Layout.{queue_board}
 use Rattle.image.specs.declared.name.Name.{Name}
 use Rattle.image.specs.Name.{Named}
@@ -26,8 +25,8 @@ own-unseen o (inr l) h = l (sym h.name-is ∙ o.name-is h.visible.payload.0)
 
 -- what the row has is what the entry shows: its value, or nothing
 pub data Tells (v : Option Value) (x : Entry) : Type 0 where
-  tells-value : Payload x → v ≡ some x.value → Tells v x
-  tells-nothing : ¬ Payload x → v ≡ none → Tells v x
+  tells-value : Payload x → v ≡ Some x.value → Tells v x
+  tells-nothing : ¬ Payload x → v ≡ None → Tells v x
 
 -- the slot after the write; `filled` and `rewritten` compute to it
 abbrev pub written : Entry → ℕ → ℕ → ℕ → Slot → Slot
@@ -114,10 +113,10 @@ module _ {e s uid order : ℕ} {k : Name} {v : Option Value} {x : Entry} {retire
   }
 
   -- from e on the slot shows what the row has
-  pub write-tells : (d : ℕ) → e ≤ d → (w : Value) → Sees d k w new ↔ (v ≡ some w)
+  pub write-tells : (d : ℕ) → e ≤ d → (w : Value) → Sees d k w new ↔ (v ≡ Some w)
   write-tells d l w = elim t.tells [
     | tells-value p a ↦ (
-      λ q. a ∙ ap some q.value-is,
+      λ q. a ∙ ap Some q.value-is,
       λ q. record { visible = omega (slotty, t.own.epoch-is p.0); name-is = t.own.name-is p.0; value-is = cc },
     )
     | tells-nothing p b ↦ (λ q. absurd (p q.visible.payload), λ q. let z : ◌≡◌ {A = ℕ} 0 1 = cc in absurd (omega arith))
@@ -146,7 +145,7 @@ module _ {e s uid order : ℕ} {k : Name} {v : Option Value} {x : Entry} {retire
     )
 
     -- from e on the job is shown as the row has it
-    loud : (d : ℕ) → e ≤ d → (w : Value) → Shows g d k w ↔ (v ≡ some w)
+    loud : (d : ℕ) → e ≤ d → (w : Value) → Shows g d k w ↔ (v ≡ Some w)
     loud d l w = (
       any-case put (write-tells d l w).0 (λ m h q. absurd ((behind m h).lone d l q.visible q.name-is)),
       λ q. any-new put ((write-tells d l w).1 q),

@@ -1,7 +1,6 @@
 -- A slot as the crash invariant sees it, and the invariant (docs/ARCHITECTURE.md: the lines I0 to K1).
-use Rattle.std.specs.Prelude.{ℕ, ◌+◌, ◌≤◌, ◌<◌, ◌≡◌, ◌≢◌, ◌⊎◌, ◌↔◌}
+use Rattle.std.specs.Prelude.{ℕ, ◌+◌, ◌≤◌, ◌<◌, ◌≡◌, ◌≢◌, ◌⊎◌, ◌↔◌, Some}
 use mathlib.Core.List.{List, Memᴰ}
-use Rattle.std.proofs.Math.Option.{some}
 use Rattle.image.specs.declared.header.Header.{Header}
 use Rattle.image.specs.Layout.{most_number, jobs_board, queue_board, header_of}
 use Rattle.image.specs.declared.name.Name.{Name}
@@ -188,4 +187,4 @@ pub record Inv (st : State) : Type 0 where
   pub underway : Every (Underway st.clock st.place) st.slots
   -- I4: what is visible at c - 2, c - 1 and c is what the reference map says
   pub late : UpTo st.clock st.row
-  pub shown : (e : ℕ) → e ≤ st.clock → st.clock ≤ e + 2 → (k : Name) (v : Value) → Shows st.slots e k v ↔ (jobs_at e st.start st.row k ≡ some v)
+  pub shown : (e : ℕ) → e ≤ st.clock → st.clock ≤ e + 2 → (k : Name) (v : Value) → Shows st.slots e k v ↔ (jobs_at e st.start st.row k ≡ Some v)

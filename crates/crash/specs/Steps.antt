@@ -1,6 +1,5 @@
 -- The changes of state: seven by calls, four by advance, two lines written back. Each record has what is known when it is made.
-use Rattle.std.specs.Prelude.{ℕ, suc, ◌+◌, ◌≤◌, ◌<◌, ◌≡◌, ◌≢◌, ◌⊎◌, ◌↔◌, [], ◌∷◌, ◌++◌}
-use Rattle.std.proofs.Math.Option.{Option, none, some}
+use Rattle.std.specs.Prelude.{ℕ, suc, ◌+◌, ◌≤◌, ◌<◌, ◌≡◌, ◌≢◌, ◌⊎◌, ◌↔◌, [], ◌∷◌, ◌++◌, Option, None, Some}
 use Rattle.image.specs.Layout.{most_number, jobs_board, queue_board}
 use Rattle.image.specs.declared.name.Name.{Name}
 use Rattle.image.specs.Name.{name_of, Named}
@@ -111,8 +110,8 @@ pub record Foremost (e r : ℕ) (st : State) : Type 0 where
 -- a set by a new UPDATE, or a delete by a new DELETE, in slot s, of the older version in r
 -- v is the value in the slot, u what the row has
 pub data Successor : ℕ → Value → Option Value → Type 0 where
-  updates : (v : Value) → Successor 2 v (some v)
-  removes : (v : Value) → Successor 3 v none
+  updates : (v : Value) → Successor 2 v (Some v)
+  removes : (v : Value) → Successor 3 v None
 
 pub record Over (kind e s r : ℕ) (v : Value) (u : Option Value) (now before : ℕ) (st : State) (g : ℕ → Slot) : Type 0 where
   pub outcome : Successor kind v u
@@ -200,7 +199,7 @@ pub record Start (st : State) : Type 0 where
   pub apart : Pairwise Apart st.slots
   pub rest : st.place ≡ at_rest
   pub empty : st.row ≡ []
-  pub jobs : (k : Name) (v : Value) → Shows st.slots st.clock k v ↔ (st.start k ≡ some v)
+  pub jobs : (k : Name) (v : Value) → Shows st.slots st.clock k v ↔ (st.start k ≡ Some v)
 
 -- ---- a cut: what recovery makes of the persistent entries, e being the clock less 2
 pub record Kept (e : ℕ) (x : Entry) : Type 0 where

@@ -1,8 +1,7 @@
 -- The ways out of this crate's functions.
-use Rattle.std.specs.Prelude.{ℕ, ◌≤◌, ◌≡◌, Bool, true, false, List, length, set, replicate}
+use Rattle.std.specs.Prelude.{ℕ, ◌≤◌, ◌≡◌, Bool, true, false, List, length, set, replicate, Ok, Err}
 use Rattle.std.proofs.Common.{sym, ap, ◌∙◌}
 use borrow.Author.Tests.{eq-eqb, ne_eqb}
-use Rattle.reply.specs.declared.Check.TheVariants.{Accepted, Refused}
 use Rattle.reply.specs.declared.Refusal.TheVariants.{BadSizes}
 use Rattle.image.specs.Layout.{most_slots, image_words, sizes_ok}
 use Rattle.image.specs.Laws.{sizes-true}
@@ -41,14 +40,14 @@ unfolding fresh_store
 store-done len n w p q r = rw (p, q, r)
 
 module _ (wk l tr : List ℕ) (slots words : ℕ) {n w : ℕ} {f : Bool} (ne : n ≡ slots) (we : w ≡ words) (fi : f ≡ format_fits (length wk) (length l) (length tr) n w) where
-  pub format-declines : f ≡ false → outcome (Refused BadSizes) wk l tr ≡ format (store wk l tr) slots words
+  pub format-declines : f ≡ false → outcome (Err BadSizes) wk l tr ≡ format (store wk l tr) slots words
   format-declines e = rw (format-is (store wk l tr) slots words, ← ne, ← we, ← fi, e)
 
   module _ (ft : f ≡ true) where
     pub format-fitting : Fitting wk l tr slots words
     format-fitting = rw (ne, we) at (fitting wk l tr n w (sym fi ∙ ft))
 
-    pub format-done : {a b d : List ℕ} → store a b d ≡ fresh_store (length tr) slots words → outcome Accepted a b d ≡ format (store wk l tr) slots words
-    format-done p = rw (format-is (store wk l tr) slots words, ← ne, ← we, ← fi, ft, ne, we) (ap (λ (x : Store). record { reply = Accepted; store = x }) p)
+    pub format-done : {a b d : List ℕ} → store a b d ≡ fresh_store (length tr) slots words → outcome (Ok tt) a b d ≡ format (store wk l tr) slots words
+    format-done p = rw (format-is (store wk l tr) slots words, ← ne, ← we, ← fi, ft, ne, we) (ap (λ (x : Store). record { reply = Ok tt; store = x }) p)
 
 pub ruleset laws = (sizes-true, fit-blanking, format-sizes, format-slots, format-working, format-persistent, format-threads, fresh-done, store-done, format-declines, format-fitting, format-done)

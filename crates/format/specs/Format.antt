@@ -1,10 +1,8 @@
 -- 01: "A fresh store has clock 2, every other word after word 1 zero, next uid 1, nothing open, retired, waiting or underway."
 -- 02, No. 3: "an order number given by the store .., 1 first"
-use Rattle.std.specs.Prelude.{ℕ, not, ◌&&◌, List, length, set, replicate, eqb}
-use Rattle.reply.specs.declared.Check.{Check}
-use Rattle.reply.specs.declared.Check.TheVariants.{Accepted, Refused}
+use Rattle.std.specs.Prelude.{ℕ, not, ◌&&◌, List, length, set, replicate, eqb, Ok, Err}
 use Rattle.reply.specs.declared.Refusal.TheVariants.{BadSizes}
-use Rattle.reply.specs.Refusals.{refuse}
+use Rattle.reply.specs.Refusals.{Check, refuse}
 use Rattle.image.specs.Layout.{image_words, sizes_ok}
 use Rattle.transient.specs.Layout.{threads_ok, blank}
 use Rattle.transient.specs.Store.{Store, Outcome, outcome, after_check}
@@ -17,6 +15,6 @@ unfoldable pub format : Store → ℕ → ℕ → Outcome Check
 format st n w =
     after_check
     (refuse (not (sizes_ok n w && (eqb (length st.working) (image_words n w) && (eqb (length st.persistent) (image_words n w)
-    && threads_ok (length st.transient) n)))) BadSizes Accepted)
-    Refused st
-    (outcome Accepted (fresh_image n w) (fresh_image n w) (blank (length st.transient) n 1 1))
+    && threads_ok (length st.transient) n)))) BadSizes (Ok tt))
+    Err st
+    (outcome (Ok tt) (fresh_image n w) (fresh_image n w) (blank (length st.transient) n 1 1))

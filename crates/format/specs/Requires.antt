@@ -1,8 +1,7 @@
 -- What functions inside format require, memory of these sizes; and format in the parts of its code.
-use Rattle.std.specs.Prelude.{ℕ, ◌≤◌, ◌≡◌, refl, Bool, true, not, ◌&&◌, List, length, eqb}
+use Rattle.std.specs.Prelude.{ℕ, ◌≤◌, ◌≡◌, refl, Bool, true, not, ◌&&◌, List, length, eqb, Ok, Err}
 use Rattle.std.proofs.Common.{eqb-true, arith}
 use Rattle.search.specs.Bools.{and_left, and_right}
-use Rattle.reply.specs.declared.Check.TheVariants.{Accepted, Refused}
 use Rattle.reply.specs.declared.Refusal.TheVariants.{BadSizes}
 use Rattle.reply.specs.Refusals.{refuse}
 use Rattle.image.specs.Layout.{image_words, sizes_ok}
@@ -23,7 +22,7 @@ unfoldable pub fresh_store : ℕ → ℕ → ℕ → Store
 fresh_store transient n w = store (fresh_image n w) (fresh_image n w) (blank transient n 1 1)
 
 pub format-is : (st : Store) (n w : ℕ)
-    → format st n w ≡ after_check (refuse (not (format_fits (length st.working) (length st.persistent) (length st.transient) n w)) BadSizes Accepted) Refused st (record { reply = Accepted; store = fresh_store (length st.transient) n w })
+    → format st n w ≡ after_check (refuse (not (format_fits (length st.working) (length st.persistent) (length st.transient) n w)) BadSizes (Ok tt)) Err st (record { reply = Ok tt; store = fresh_store (length st.transient) n w })
 unfolding format format_fits fresh_store
 format-is st n w = refl
 

@@ -1,5 +1,5 @@
 // Format: a fresh store.
-#![tactic(auto)]
+#![tactic(auto, using(crate::specs::Exits::laws))]
 
 ghost use Rattle.std.specs.Prelude.{◌≡◌, length};
 ghost use Rattle.image.specs.Layout.{image_words};
@@ -7,7 +7,7 @@ ghost use Rattle.transient.specs.Store.{store, outcome};
 ghost use Rattle.format.specs.Format.{fresh_image, format};
 ghost use Rattle.format.specs.Requires.{Fitting, format_fits, fresh_store};
 
-use reply::{Check, Refusal};
+use reply::Refusal;
 
 fn format_fits(working: usize, persistent: usize, transient: usize, n: usize, w: usize) -> bool
     ensures { result ≡ format_fits working persistent transient n w }
@@ -58,15 +58,15 @@ pub fn format(
     transient: &mut [u32],
     slots: u32,
     words: u32,
-) -> Check
+) -> Result<(), Refusal>
     ensures { outcome result working.new persistent.new transient.new ≡ format (store working.old persistent.old transient.old) slots words }
 {
-    let n = image::shape::wide(slots);
-    let w = image::shape::wide(words);
+    let n = slots as usize;
+    let w = words as usize;
     if format_fits(working.len(), persistent.len(), transient.len(), n, w) {
         set_store(working, persistent, transient, slots, words);
-        Check::Accepted
+        Ok(())
     } else {
-        Check::Refused(Refusal::BadSizes)
+        Err(Refusal::BadSizes)
     }
 }

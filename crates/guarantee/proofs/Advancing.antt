@@ -1,6 +1,6 @@
 -- Advance keeps the invariant of a run: a declined call changes nothing, an accepted one makes one step.
 use Prim.Native.Nat.{ℕ, ◌+◌, ◌<◌}
-use Rattle.std.specs.Prelude.{◌≡◌, refl, not, ◌&&◌}
+use Rattle.std.specs.Prelude.{◌≡◌, refl, not, ◌&&◌, Result, Ok, Err}
 use Rattle.std.proofs.Common.{ap, ◌∙◌, arith}
 use Rattle.std.proofs.Math.Bool.{Bool}
 use Rattle.std.proofs.Math.Dec.{eqb}
@@ -8,10 +8,8 @@ use borrow.Author.Tests.{eqb-false, eq-eqb, ne_eqb}
 use Rattle.std.proofs.Math.Decide.{ℕ_discrete}
 use Rattle.search.specs.Bools.{never, not-is-true, and_both}
 use Rattle.search.specs.Some.{any_of, some_at}
-use Rattle.reply.specs.declared.Check.{Check}
-use Rattle.reply.specs.declared.Check.TheVariants.{Accepted, Refused}
 use Rattle.reply.specs.declared.Refusal.TheVariants.{StillOpen, LastEpoch}
-use Rattle.reply.specs.Refusals.{refuse, not-refused}
+use Rattle.reply.specs.Refusals.{Check, refuse, not-refused}
 use Rattle.image.specs.Layout.{most_number}
 use Rattle.transient.specs.declared.sizes.Sizes.{Sizes}
 use Rattle.transient.specs.Layout.{note, phase_at, place_at, open_epoch}
@@ -19,7 +17,6 @@ use Rattle.transient.specs.Store.{Store, table_of, sizes_of, Outcome, after_chec
 use Rattle.transient.specs.Entry.{entry_check}
 use Rattle.transient.specs.Passed.{entry-with}
 use Rattle.step.specs.declared.Advance.{Advance}
-use Rattle.step.specs.declared.Advance.TheVariants.{Declined}
 use Rattle.step.specs.Step.{reclaim_next, contents_next, header_next, clock_next, place, step}
 use Rattle.advance.specs.Advance.{noted, advance}
 use Rattle.advance.specs.Stages.{underway, open_below, held_check, advance_sized, advance-is}
@@ -33,6 +30,7 @@ use Rattle.guarantee.proofs.Stepping.{progress-reclaim, progress-contents, progr
 use Rattle.guarantee.proofs.Ticking.{Owed, tick-good}
 use Rattle.guarantee.proofs.Flushing.{flush-good, head-good}
 use Rattle.guarantee.proofs.Reclaiming.{reclaim-good}
+use Rattle.reply.specs.declared.Refusal.{Refusal}
 
 -- ---- one step, by the phase
 module _ {sz : Sizes} {start : Jobs} {st : Store} {p : Plain} (y : Ready sz start st p) (k : note place_at st.transient < sz.n) where
@@ -67,40 +65,40 @@ module _ {sz : Sizes} {start : Jobs} {st : Store} {p : Plain} (y : Ready sz star
 -- ---- the checks
 module _ {sz : Sizes} {start : Jobs} {st : Store} {p : Plain} (g : Good sz start st p) where
   -- refusals 14 and 15 passed
-  ready : held_check sz st.transient p.clock ≡ Accepted → Ready sz start st p
+  ready : held_check sz st.transient p.clock ≡ Ok tt → Ready sz start st p
   unfolding held_check open_below
   ready e =
       let below : ℕ → Bool = λ u. eqb (open_epoch st.transient u + 1) p.clock in
       let last = eqb p.clock most_number in
-      let a = not-refused (not (underway st.transient) && any_of below sz.t) StillOpen (refuse last LastEpoch Accepted) e in
-      let top = eqb-false p.clock most_number (not-refused last LastEpoch Accepted a.1).0 in
+      let a = not-refused (not (underway st.transient) && any_of below sz.t) StillOpen (refuse last LastEpoch (Ok tt)) e in
+      let top = eqb-false p.clock most_number (not-refused last LastEpoch (Ok tt) a.1).0 in
       record {
         good = g;
         quiet = λ u h q. never _ (and_both (not-is-true (g.opens.quiet u h q)) (some_at below sz.t u h (eq-eqb _ _ q))) a.0;
         clock-top = omega (arith, g.clock-hi);
       }
 
-  abbrev Told : Outcome Advance → Type 0
+  abbrev Told : Outcome (Result Advance Refusal) → Type 0
   Told a = Good sz start a.store (told_advance a.reply p)
 
-  abbrev next : Outcome Advance
+  abbrev next : Outcome (Result Advance Refusal)
   next = noted (step sz st p.clock (place (note phase_at st.transient) (note place_at st.transient)))
 
   advance-sized-good : note place_at st.transient < sz.n → Told (advance_sized sz st)
   unfolding advance_sized
   advance-sized-good h = rw g.working.clock-is (go (held_check sz st.transient p.clock) refl)
     where
-      go : (k : Check) → held_check sz st.transient p.clock ≡ k → Told (after_check k Declined st next)
-      go (Refused r) e = g
-      go Accepted e = step-good (ready e) h
+      go : (k : Check) → held_check sz st.transient p.clock ≡ k → Told (after_check k Err st next)
+      go (Err r) e = g
+      go (Ok _) e = step-good (ready e) h
 
   -- ---- the call
   pub advance-good : Told (advance st)
   advance-good = rw (advance-is st) (go (entry_check st) refl)
     where
-      place-below : entry_check st ≡ Accepted → note place_at st.transient < sz.n
+      place-below : entry_check st ≡ Ok tt → note place_at st.transient < sz.n
       place-below a = rw (sizes-is g) at (entry-with st.working st.persistent st.transient a).entered.place
 
-      go : (k : Check) → entry_check st ≡ k → Told (after_check k Declined st (advance_sized (sizes_of (table_of st)) st))
-      go (Refused r) e = g
-      go Accepted e = rw (sizes-is g) (advance-sized-good (place-below e))
+      go : (k : Check) → entry_check st ≡ k → Told (after_check k Err st (advance_sized (sizes_of (table_of st)) st))
+      go (Err r) e = g
+      go (Ok _) e = rw (sizes-is g) (advance-sized-good (place-below e))

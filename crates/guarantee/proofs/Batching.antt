@@ -1,12 +1,10 @@
 -- A batch keeps the invariant: each of its accepted changes does, as its own call.
 use Prim.Native.Nat.{ℕ, zero, suc, ◌+◌, ◌/◌, ◌<◌}
-use Rattle.std.specs.Prelude.{◌≡◌, cond, List, length}
+use Rattle.std.specs.Prelude.{◌≡◌, cond, List, length, None, Some}
 use Rattle.std.proofs.Math.Bool.{false}
-use Rattle.std.proofs.Math.Option.{none, some}
 use Rattle.std.proofs.Math.Dec.{eqb}
 use borrow.Author.Tests.{eq-eqb, ne_eqb}
 use Rattle.std.proofs.Common.{arith}
-use Rattle.reply.specs.declared.Check.{Check}
 use Rattle.image.specs.Name.{job_name}
 use Rattle.transient.specs.declared.sizes.Sizes.{Sizes}
 use Rattle.transient.specs.Store.{Store, table_of, sizes_of, Outcome}
@@ -19,11 +17,12 @@ use Rattle.guarantee.proofs.Good.{Good}
 use Rattle.guarantee.proofs.Changing.{sizes-is}
 use Rattle.guarantee.proofs.Making.{new-good}
 use Rattle.guarantee.proofs.Replacing.{set-good, delete-good}
+use Rattle.reply.specs.Refusals.{Check}
 
 module _ (sz : Sizes) (start : Jobs) (thread : ℕ) where
   -- what a change leaves, with what the reference map hears of it
   abbrev Heard : List ℕ → Plain → Outcome Check → Type 0
-  Heard c p o = Good sz start o.store (told_change thread (job_name (job_of c).key) (cond (eqb (kind_of c) 3) none (some (job_of c).value)) o.reply p)
+  Heard c p o = Good sz start o.store (told_change thread (job_name (job_of c).key) (cond (eqb (kind_of c) 3) None (Some (job_of c).value)) o.reply p)
 
   change-good : (c : List ℕ) {st : Store} {p : Plain} → Good sz start st p → Heard c p (change_job st thread c)
   unfolding change_job

@@ -1,6 +1,6 @@
 -- An accepted image of survivors only, in both places, with notes that say nothing: such a store has the invariant, with an empty
 -- row and the image's own jobs.
-use Rattle.std.specs.Prelude.{ℕ, ◌+◌, ◌-◌, ◌≤◌, ◌<◌, ◌≡◌, refl, true, false, ◌≢◌, ◌↔◌, List, [], length, leb}
+use Rattle.std.specs.Prelude.{ℕ, ◌+◌, ◌-◌, ◌≤◌, ◌<◌, ◌≡◌, refl, true, false, ◌≢◌, ◌↔◌, List, [], length, leb, Ok}
 use Rattle.std.proofs.Common.{sym, ◌∙◌, inl, ⊎_elim, arith}
 use Rattle.std.proofs.Math.Logic.Iff.{trans as Iff-trans}
 use mathlib.Core.List.Memᴰ
@@ -8,7 +8,6 @@ use borrow.Author.Tests.{eq-eqb, ne_eqb, leb-true}
 use Rattle.std.proofs.Math.Decide.{dec_lt}
 use Rattle.search.specs.Bools.{cases, never, and_left, and_right, and_both}
 use Rattle.search.specs.Some.{some_at}
-use Rattle.reply.specs.declared.Check.TheVariants.{Accepted}
 use Rattle.image.specs.Layout.{queue_board, is_blank, has_zero, is_filled, is_payload, header, key_at, contents, value_at, slots_of, width_of, clock_of, free_header}
 use Rattle.image.specs.declared.header.Header.{Header}
 use Rattle.image.specs.declared.name.Name.{Name}
@@ -44,7 +43,7 @@ Begins st = Good (sizes_of (table_of st)) (jobs_of st.persistent) st (start_of s
 
 -- the notes have nothing open, retired or underway, and their index is the image's
 pub record Clean (l tr : List ℕ) : Type 0 where
-  pub accepted : image_check l ≡ Accepted
+  pub accepted : image_check l ≡ Ok tt
   pub just : (s : ℕ) → s < slots_of l → is_blank (header l s) ≡ false → survivor l (slots_of l) s ≡ true
   pub uid-lo : 1 ≤ note next_uid_at tr
   pub uids : (s : ℕ) → s < slots_of l → survivor l (slots_of l) s ≡ true → (header l s).uid < note next_uid_at tr
@@ -56,7 +55,7 @@ pub record Clean (l tr : List ℕ) : Type 0 where
   pub index : Indexed (sizes_in (length tr) (slots_of l) (width_of l)) l tr
 
 -- blank notes are such beside an image of free slots
-pub blank-clean : (l : List ℕ) (len n u x : ℕ) → image_check l ≡ Accepted
+pub blank-clean : (l : List ℕ) (len n u x : ℕ) → image_check l ≡ Ok tt
     → ((s : ℕ) → s < slots_of l → is_blank (header l s) ≡ false → survivor l (slots_of l) s ≡ true)
     → 1 ≤ u → ((s : ℕ) → s < slots_of l → survivor l (slots_of l) s ≡ true → (header l s).uid < u)
     → ((s : ℕ) → s < slots_of l → survives_on l (slots_of l) queue_board s ≡ true → key_at l (slots_of l) (width_of l) s < x)
@@ -79,7 +78,7 @@ blank-clean l len n u x ok just lo uids orders free t =
     }
 
 -- two kept slots are not of one version
-version-once : (l : List ℕ) → image_check l ≡ Accepted → (s t : ℕ) → s < slots_of l → t < s
+version-once : (l : List ℕ) → image_check l ≡ Ok tt → (s t : ℕ) → s < slots_of l → t < s
     → kept (clock_of l) (header l s) ≡ true → kept (clock_of l) (header l t) ≡ true → (header l t).uid ≡ (header l s).uid → (header l t).epoch ≢ (header l s).epoch
 unfolding version_below same_version
 version-once l ok s t h b k x u e =

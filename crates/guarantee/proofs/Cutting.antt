@@ -1,5 +1,5 @@
 -- A cut: at every moment of a run recovery accepts the persistent image and makes of it the reference map's jobs at the clock less 2.
-use Rattle.std.specs.Prelude.{ℕ, ◌+◌, ◌-◌, ◌≤◌, ◌<◌, ◌≡◌, true, false, ◌≢◌, ◌↔◌}
+use Rattle.std.specs.Prelude.{ℕ, ◌+◌, ◌-◌, ◌≤◌, ◌<◌, ◌≡◌, true, false, ◌≢◌, ◌↔◌, Ok}
 use Rattle.std.proofs.Math.Path.{sym}
 use Rattle.std.proofs.Common.{ap, ◌∙◌, eqb-true, arith}
 use Rattle.std.proofs.Math.Logic.Iff.{trans as Iff-trans}
@@ -7,7 +7,6 @@ use mathlib.Core.List.{List, Memᴰ}
 use Rattle.std.proofs.Math.Dec.{eqb}
 use Rattle.search.specs.Bools.{never, refuted, and_left, and_right}
 use Rattle.search.specs.Some.{some_one}
-use Rattle.reply.specs.declared.Check.TheVariants.{Accepted}
 use Rattle.image.specs.Layout.{header, contents, value_at, clock_of}
 use Rattle.image.specs.declared.name.Name.{Name}
 use Rattle.image.specs.Name.{misnamed, name_at, same-name, named-says}
@@ -35,7 +34,7 @@ use Rattle.guarantee.proofs.JobsOf.{Survivor, option-same, jobs-of, same-jobs}
 
 -- recovery accepts the image, which has the reference map's jobs at the clock less 2
 pub record Cuts (start : Jobs) (l : List ℕ) (p : Plain) : Type 0 where
-  pub accepted : image_check l ≡ Accepted
+  pub accepted : image_check l ≡ Ok tt
   pub clock : clock_of l ≡ p.clock
   pub jobs : (k : Name) → jobs_of l k ≡ jobs_at (p.clock - 2) start p.row k
   pub fifo : Fifo (p.clock - 2) start p.row
@@ -125,7 +124,7 @@ module _ {sz : Sizes} {start : Jobs} {st : Store} {p : Plain} (g : Good sz start
       (name-at m b ∙ same-name _ _ (and_right z _ o.passes) ∙ sym (name-at s h)))
 
   -- recovery accepts what a cut leaves
-  pub cut-accepted : image_check st.persistent ≡ Accepted
+  pub cut-accepted : image_check st.persistent ≡ Ok tt
   cut-accepted =
       let i = g.persistent in
       let sound : Sound image sz.n sz.w =

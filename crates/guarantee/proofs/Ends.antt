@@ -1,7 +1,6 @@
 -- A sync in a run that passes its check reports done, whatever words the memory writes back before its advance calls.
-use Rattle.std.specs.Prelude.{ℕ, zero, suc, ◌*◌, ◌≤◌, ◌<◌, ◌≡◌, refl, List, [], ◌∷◌, get_or, set}
+use Rattle.std.specs.Prelude.{ℕ, zero, suc, ◌*◌, ◌≤◌, ◌<◌, ◌≡◌, refl, List, [], ◌∷◌, get_or, set, Ok}
 use Rattle.std.proofs.Common.{◌∙◌, arith, length-set, get_or-set_other}
-use Rattle.reply.specs.declared.Check.TheVariants.{Accepted}
 use Rattle.image.specs.Layout.{slots_of, clock_of}
 use Rattle.image.specs.Alike.{Alike, unchanged}
 use Rattle.transient.specs.Store.{Store, store, table_of}
@@ -69,7 +68,7 @@ syncing-ends (suc more) (suc ticks) k words m u =
     go (went r q) a b = rw r (a _ (record { quiet = q; enough = omega (arith, v.enough, budget-on (advance-moves x.store) ticks r) }))
     go (ticked r q) a b = rw r (b _ (record { quiet = q; enough = omega (arith, v.enough, budget-tick (advance-moves x.store) ticks r) }))
 
-pub sync-ends : (words : ℕ → List ℕ) (m : Moment) → sync_check m.store ≡ Accepted → Ended (through (syncs words) m).last
+pub sync-ends : (words : ℕ → List ℕ) (m : Moment) → sync_check m.store ≡ Ok tt → Ended (through (syncs words) m).last
 unfolding through
 sync-ends words m a =
     rw a (syncing-ends (2 * most_lines (slots_of m.store.working)) 2 0 words m (record { quiet = check-quiet m.store a; enough = budget-top (table_of m.store) }))

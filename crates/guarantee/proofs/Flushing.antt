@@ -1,11 +1,9 @@
 -- Lines written back by advance: the contents and then the header of each slot that waits.
-use Rattle.std.specs.Prelude.{ℕ, ◌+◌, ◌-◌, ◌≤◌, ◌<◌, ◌≡◌, Bool, false, ◌&&◌, List, leb}
+use Rattle.std.specs.Prelude.{ℕ, ◌+◌, ◌-◌, ◌≤◌, ◌<◌, ◌≡◌, Bool, false, ◌&&◌, List, leb, Option, Some, None}
 use Rattle.std.proofs.Math.Path.{refl}
 use Rattle.std.proofs.Common.{le-leb, arith}
 use Rattle.search.specs.Bools.{never, refuted, and_both}
 use Rattle.search.specs.First.{found_first, found_nothing, where_found}
-use Rattle.search.specs.declared.Found.{Found}
-use Rattle.search.specs.declared.Found.TheVariants.{At, Nothing}
 use Rattle.image.specs.Layout.{header, contents}
 use Rattle.image.specs.Line.{store_line}
 use Rattle.image.specs.Requires.{held_header, held_contents, slot}
@@ -97,15 +95,15 @@ module _ {sz : Sizes} {start : Jobs} {st : Store} {p : Plain} (y : Ready sz star
   unfolding flush_from waiting_from contents_flushed
   flush-good q i = go (waiting_from sz tr c q) refl
     where
-      go : (f : Found) → waiting_from sz tr c q ≡ f → Owed sz start p (where_found f (contents_flushed sz st) (ticking sz st c))
-      go (At s) e =
+      go : (f : Option ℕ) → waiting_from sz tr c q ≡ f → Owed sz start p (where_found f (contents_flushed sz st) (ticking sz st c))
+      go (Some s) e =
           let f = found_first (waits q) sz.n e in
           let k = f.below in
           let z = noted-place sz tr s header_next s in
           let passed = passes-inv s i (record { quiet = λ m a b. quiet q m a (f.before m b) (omega arith) }) in
           went-good y tr header_next s y.good.working (line-image y.good k) z y.good.index (progress-header sz.n s)
           (half-inv (line-inv passed (record { put = line-put y.good k _ z })) (line_same y.good k _ z))
-      go Nothing e = tick-good y (passes-inv sz.n i (record { quiet = λ m a b. quiet q m a (found_nothing (waits q) sz.n e m b) b }))
+      go None e = tick-good y (passes-inv sz.n i (record { quiet = λ m a b. quiet q m a (found_nothing (waits q) sz.n e m b) b }))
 
   -- the header of the slot whose contents are written
   pub head-good : (s : ℕ) → s < sz.n → Reached sz start st p (half_at sz.n s)

@@ -1,7 +1,6 @@
 -- What every change call needs and keeps: the operation it belongs to, the slot it writes, and all that it leaves as it was.
-use Rattle.std.specs.Prelude.{ℕ, ◌+◌, ◌≤◌, ◌<◌, ◌≡◌, refl, Bool, true, false, ◌≢◌, List, [], ◌∷◌, ◌++◌, eqb}
+use Rattle.std.specs.Prelude.{ℕ, ◌+◌, ◌≤◌, ◌<◌, ◌≡◌, refl, Bool, true, false, ◌≢◌, List, [], ◌∷◌, ◌++◌, eqb, Option, None, Some}
 use Rattle.std.proofs.Common.{◌∙◌, le-leb, ne_eqb, arith}
-use Rattle.std.proofs.Math.Option.{Option, none, some}
 use Rattle.search.specs.Bools.{flag, never, and_both}
 use Rattle.image.specs.declared.header.Header.{Header}
 use Rattle.image.specs.Layout.{jobs_board, queue_board}
@@ -38,7 +37,7 @@ pub flag_off : {b : Bool} → b ≡ false → flag b ≡ 0
 flag_off h = rw h
 
 -- ---- what is no take owes nothing
-pub value-owes : {A : Type 0} {B : Type 0} {v : Value} → A → some v ≡ none → B
+pub value-owes : {A : Type 0} {B : Type 0} {v : Value} → A → Some v ≡ None → B
 value-owes a e = let z : ◌≡◌ {A = ℕ} 0 1 = cc in absurd (omega arith)
 
 pub job-owes : {B : Type 0} → jobs_board ≡ queue_board → B
@@ -149,7 +148,7 @@ module _ {sz : Sizes} {start : Jobs} {st : Store} {p : Plain} (g : Good sz start
 
   -- a take owes that it takes the front, at each threshold from its operation's epoch on
   abbrev pub Owes : ℕ → Name → Option Value → Type 0
-  Owes e k v = k.board ≡ queue_board → v ≡ none → (d : ℕ) → e ≤ d → Front (jobs_at d start p.row) k.key
+  Owes e k v = k.board ≡ queue_board → v ≡ None → (d : ℕ) → e ≤ d → Front (jobs_at d start p.row) k.key
 
   pub fifo-after : (e : ℕ) (k : Name) (v : Option Value) → Owes e k v → (d : ℕ) → Fifo d start (p.row ++ (record { epoch = e; name = k; value = v } ∷ []))
   fifo-after e k v o d = fifo-snoc d start p.row _ (g.fifo d) (λ b n l. o b n d l)

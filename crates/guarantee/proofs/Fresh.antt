@@ -1,11 +1,10 @@
 -- What format leaves: an image that recovery accepts, in which nothing survives.
-use Rattle.std.specs.Prelude.{ℕ, ◌+◌, ◌≤◌, ◌≡◌, refl, Bool, true, false, ◌⊎◌, List, length, get_or, set, replicate, eqb}
+use Rattle.std.specs.Prelude.{ℕ, ◌+◌, ◌≤◌, ◌≡◌, refl, Bool, true, false, ◌⊎◌, List, length, get_or, set, replicate, eqb, Ok, Err}
 use Rattle.std.proofs.Common.{◌∙◌, inl, inr, arith}
 use Rattle.std.proofs.Math.ListN.{length-set}
 use Rattle.std.proofs.lemmas.List.{length-replicate}
 use Rattle.std.proofs.Math.Seq.{get_or-set_same, get_or-set_other}
 use Rattle.search.specs.Bools.{cases, never, refuted, and_left, and_right}
-use Rattle.reply.specs.declared.Check.TheVariants.{Accepted, Refused}
 use Rattle.reply.specs.declared.Refusal.TheVariants.{BadSizes}
 use Rattle.image.specs.Layout.{queue_board, header_at, image_words, is_filled, header, slots_of, width_of, clock_of, free_header, sizes_ok, is_blank, has_zero}
 use Rattle.image.specs.Requires.{InRange}
@@ -80,7 +79,7 @@ module _ (n w : ℕ) (sizes : InRange n w) where
   fresh-dead m s = refuted (survivor image m s) (λ v. never _ (survivor-kept image m s v) (fresh_kept s))
 
   -- recovery accepts it
-  fresh-accepted : image_check image ≡ Accepted
+  fresh-accepted : image_check image ≡ Ok tt
   unfolding nameless version_below name_below
   fresh-accepted =
       says-accepted image
@@ -114,7 +113,7 @@ pub record Formats (st : Store) (n w : ℕ) : Type 0 where
   pub threads : threads_ok (length st.transient) n ≡ true
   pub leaves : (format st n w).store ≡ fresh_store (length st.transient) n w
 
-pub formats : (st : Store) (n w : ℕ) → (format st n w).reply ≡ Accepted → Formats st n w
+pub formats : (st : Store) (n w : ℕ) → (format st n w).reply ≡ Ok tt → Formats st n w
 unfolding format format_fits fresh_store
 formats st n w e = go (cases fit)
   where
@@ -130,4 +129,4 @@ formats st n w e = go (cases fit)
           threads = and_right (eqb (length st.persistent) (image_words n w)) _ b;
           leaves = rw y;
         }
-    go (inr y) = let q : Refused BadSizes ≡ Accepted = rw y at e in let z : ◌≡◌ {A = ℕ} 0 1 = cc in absurd (omega arith)
+    go (inr y) = let q : Err BadSizes ≡ Ok tt = rw y at e in let z : ◌≡◌ {A = ℕ} 0 1 = cc in absurd (omega arith)

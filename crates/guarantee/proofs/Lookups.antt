@@ -1,5 +1,7 @@
 -- What the look-ups of a call say of the table that the invariant sees.
-use Rattle.std.specs.Prelude.{ℕ, ◌≤◌, ◌<◌, ◌≡◌, refl, true, false, ◌≢◌, leb}
+use Rattle.reply.specs.declared.Refusal.TheVariants.{Newer}
+use Rattle.reply.specs.declared.Refusal.{Refusal}
+use Rattle.std.specs.Prelude.{ℕ, ◌≤◌, ◌<◌, ◌≡◌, refl, true, false, ◌≢◌, leb, Option, Some, None, Result, Ok, Err}
 use Rattle.std.proofs.Math.Path.{sym}
 use Rattle.std.proofs.Common.{◌∙◌, eqb-true, eq-eqb, lt-ltb}
 use Rattle.std.proofs.Math.Logic.{⊎_elim}
@@ -12,16 +14,12 @@ use Rattle.search.specs.First.{found_first, found_nothing}
 use Rattle.search.specs.Some.{some-none}
 use Rattle.search.specs.Count.{count}
 use Rattle.search.specs.Ring.{first_round, round-found}
-use Rattle.search.specs.declared.Found.{Found}
-use Rattle.search.specs.declared.Found.TheVariants.{At, Nothing}
 use Rattle.image.specs.Layout.{is_filled, is_payload, header, contents}
 use Rattle.image.specs.declared.name.Name.{Name}
 use Rattle.image.specs.Name.{name_at, same-name, name-same}
 use Rattle.transient.specs.declared.sizes.Sizes.{Sizes}
 use Rattle.transient.specs.Layout.{note, last_at, retired_in}
 use Rattle.transient.specs.Store.{Store, Table, table_of}
-use Rattle.table.specs.declared.find.Lookup.{Lookup}
-use Rattle.table.specs.declared.find.Lookup.TheVariants.{Later, Live, Absent}
 use Rattle.index.specs.Indexed.{indexed-listed}
 use Rattle.table.specs.Find.{listed, newer_at, live_at, newer_on, live_on, live_slot, lookup, free_at, room}
 use Rattle.table.specs.Requires.{newer, looked_up}
@@ -36,48 +34,48 @@ use Rattle.guarantee.specs.Says.{payload-of, proper-filled, proper-payload}
 -- ---- what a look-up says
 pub record Missing (sz : Sizes) (tb : Table) (name : Name) (e : ℕ) : Type 0 where
   pub newest : newer sz tb name e ≡ false
-  pub none : live_slot sz tb name ≡ Nothing
+  pub none : live_slot sz tb name ≡ None
 
 pub record Holding (sz : Sizes) (tb : Table) (name : Name) (e s : ℕ) : Type 0 where
   pub newest : newer sz tb name e ≡ false
-  pub found : live_slot sz tb name ≡ At s
+  pub found : live_slot sz tb name ≡ Some s
 
 module _ (sz : Sizes) (tb : Table) (name : Name) (e : ℕ) where
-  looked : (k : Lookup) → lookup sz tb name e ≡ k → k ≢ Later → (newer sz tb name e ≡ false) × (looked_up (live_slot sz tb name) ≡ k)
+  looked : (k : Result (Option ℕ) Refusal) → lookup sz tb name e ≡ k → k ≢ (Err Newer) → (newer sz tb name e ≡ false) × (looked_up (live_slot sz tb name) ≡ k)
   unfolding lookup newer
   looked k q d =
       ⊎_elim
-      (λ (y : newer sz tb name e ≡ true). let z : Later ≡ k = rw y at q in absurd (d (sym z)))
+      (λ (y : newer sz tb name e ≡ true). let z : Err Newer ≡ k = rw y at q in absurd (d (sym z)))
       (λ (y : newer sz tb name e ≡ false). (y, rw y at q))
       (cases (newer sz tb name e))
 
-  pub absent-says : lookup sz tb name e ≡ Absent → Missing sz tb name e
+  pub absent-says : lookup sz tb name e ≡ Ok None → Missing sz tb name e
   absent-says q =
-      let b = looked Absent q (λ z. let y : ◌≡◌ {A = ℕ} 0 1 = cc in omega arith) in
+      let b = looked (Ok None) q (λ z. let y : ◌≡◌ {A = ℕ} 0 1 = cc in omega arith) in
       record { newest = b.0; none = go (live_slot sz tb name) b.1 }
     where
-      go : (f : Found) → looked_up f ≡ Absent → f ≡ Nothing
-      go (At u) r = let z : ◌≡◌ {A = ℕ} 0 1 = cc in absurd (omega arith)
-      go Nothing r = refl
+      go : (f : Option ℕ) → looked_up f ≡ Ok None → f ≡ None
+      go (Some u) r = let z : ◌≡◌ {A = ℕ} 0 1 = cc in absurd (omega arith)
+      go None r = refl
 
-  pub live-says : {s : ℕ} → lookup sz tb name e ≡ Live s → Holding sz tb name e s
+  pub live-says : {s : ℕ} → lookup sz tb name e ≡ Ok (Some s) → Holding sz tb name e s
   live-says {s} q =
-      let b = looked (Live s) q (λ z. let y : ◌≡◌ {A = ℕ} 0 1 = cc in omega arith) in
+      let b = looked (Ok (Some s)) q (λ z. let y : ◌≡◌ {A = ℕ} 0 1 = cc in omega arith) in
       record { newest = b.0; found = go (live_slot sz tb name) b.1 }
     where
-      go : (f : Found) → looked_up f ≡ Live s → f ≡ At s
-      go (At u) r = let z : u ≡ s = cc in rw z
-      go Nothing r = let z : ◌≡◌ {A = ℕ} 0 1 = cc in absurd (omega arith)
+      go : (f : Option ℕ) → looked_up f ≡ Ok (Some s) → f ≡ Some s
+      go (Some u) r = let z : u ≡ s = cc in rw z
+      go None r = let z : ◌≡◌ {A = ℕ} 0 1 = cc in absurd (omega arith)
 
 -- ---- room
-pub room_says : (sz : Sizes) (tb : Table) (k s : ℕ) → note last_at tb.transient < sz.n → room sz tb k ≡ At s → (s < sz.n) × (free_at tb.working s ≡ true)
+pub room_says : (sz : Sizes) (tb : Table) (k s : ℕ) → note last_at tb.transient < sz.n → room sz tb k ≡ Some s → (s < sz.n) × (free_at tb.working s ≡ true)
 unfolding room
 room_says sz tb k s h e =
     let n = sz.n in
     let free = free_at tb.working in
     ⊎_elim
-    (λ (y : leb k (count free n) ≡ true). let q : first_round free n (note last_at tb.transient) n ≡ At s = rw y at e in round-found free n (note last_at tb.transient) n s h (omega arith) q)
-    (λ (y : leb k (count free n) ≡ false). let q : Nothing ≡ At s = rw y at e in let z : ◌≡◌ {A = ℕ} 0 1 = cc in absurd (omega arith))
+    (λ (y : leb k (count free n) ≡ true). let q : first_round free n (note last_at tb.transient) n ≡ Some s = rw y at e in round-found free n (note last_at tb.transient) n s h (omega arith) q)
+    (λ (y : leb k (count free n) ≡ false). let q : None ≡ Some s = rw y at e in let z : ◌≡◌ {A = ℕ} 0 1 = cc in absurd (omega arith))
     (cases (leb k (count free n)))
 
 -- ---- the same, of the table
@@ -135,7 +133,7 @@ module _ {sz : Sizes} {start : Jobs} {st : Store} {p : Plain} (g : Good sz start
       ])
 
   -- no live job of this name
-  pub no-live-of : {name : Name} → live_slot sz (table_of st) name ≡ Nothing → (m : ℕ) → Payload (slots m).working → (slots m).working.name ≡ name → 1 ≤ (slots m).retired
+  pub no-live-of : {name : Name} → live_slot sz (table_of st) name ≡ None → (m : ℕ) → Payload (slots m).working → (slots m).working.name ≡ name → 1 ≤ (slots m).retired
   unfolding live_slot live_on live_at
   no-live-of {name} q m f k =
       let h = filled_in m f.0 in
@@ -163,7 +161,7 @@ module _ {sz : Sizes} {start : Jobs} {st : Store} {p : Plain} (g : Good sz start
         named = sym (slot-name s l.below) ∙ l.named;
       }
 
-  pub live_of : {name : Name} {s : ℕ} → live_slot sz (table_of st) name ≡ At s → Lives name s
+  pub live_of : {name : Name} {s : ℕ} → live_slot sz (table_of st) name ≡ Some s → Lives name s
   unfolding live_slot live_on live_at
   live_of {name} {s} q =
       let f = found_first (live_on sz (table_of st) name) sz.n q in

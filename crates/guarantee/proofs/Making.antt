@@ -1,15 +1,12 @@
 -- New keeps the invariant, as any first version does.
+use Rattle.reply.specs.declared.Refusal.{Refusal}
 use Prim.Native.Nat.{ℕ, suc, ◌+◌, ◌≤◌, ◌<◌}
-use Rattle.std.specs.Prelude.{◌≡◌, ◌≢◌, List, ◌∷◌, length, ltb}
+use Rattle.std.specs.Prelude.{◌≡◌, ◌≢◌, List, ◌∷◌, length, ltb, Option, Some, None, Ok, Result, Err}
 use Rattle.std.proofs.Math.Path.{refl}
 use Rattle.std.proofs.Common.{◌∙◌, ltb-false}
 use Rattle.std.proofs.Math.Bool.{true}
-use Rattle.std.proofs.Math.Option.{some}
 use native.Mathlib.Omega.{arith}
-use Rattle.search.specs.declared.Found.{Found}
-use Rattle.search.specs.declared.Found.TheVariants.{At, Nothing}
-use Rattle.reply.specs.declared.Check.TheVariants.{Accepted}
-use Rattle.reply.specs.declared.Refusal.TheVariants.{Newer, JobExists, NoUid, Full}
+use Rattle.reply.specs.declared.Refusal.TheVariants.{JobExists, NoUid, Full}
 use Rattle.image.specs.Layout.{most_number, jobs_board, queue_board, is_filled, fresh_header}
 use Rattle.image.specs.declared.name.Name.{Name}
 use Rattle.image.specs.Name.{job_name, Named}
@@ -18,8 +15,6 @@ use Rattle.transient.specs.Layout.{note, last_at, next_uid_at, next_order_at, op
 use Rattle.transient.specs.Laws.{IndexKept, index-then, uid-index}
 use Rattle.transient.specs.Store.{Store, store, table}
 use Rattle.transient.specs.Calls.{Changed}
-use Rattle.table.specs.declared.find.Lookup.{Lookup}
-use Rattle.table.specs.declared.find.Lookup.TheVariants as look
 use Rattle.table.specs.Find.{lookup, room, free_at}
 use Rattle.table.specs.Fill.{taken}
 use Rattle.jobs.specs.Job.{Job, bad_job, made}
@@ -57,7 +52,7 @@ module _ {sz : Sizes} {start : Jobs} {wk l tr : List ℕ} {p : Plain} (thread : 
       → Fresh (view (store wk l tr) sz p.clock) (open_epoch tr thread) (note next_order_at tr) name x → note next_uid_at tr ≤ most_number → length v + 1 ≡ sz.w
       → Joined sz tr tr' (open_epoch tr thread) s 0 (note next_uid_at tr + 1) x
       → IndexKept sz (made sz (table wk tr) (open_epoch tr thread) s name v).transient tr'
-      → Good sz start (store (made sz (table wk tr) (open_epoch tr thread) s name v).working l tr') (told_change thread name (some v) Accepted p)
+      → Good sz start (store (made sz (table wk tr) (open_epoch tr thread) s name v).working l tr') (told_change thread name (Some v) (Ok tt) p)
   unfolding made
   made-good s name v h f k u words i kept =
       let e = open_epoch tr thread in
@@ -69,7 +64,7 @@ module _ {sz : Sizes} {start : Jobs} {wk l tr : List ℕ} {p : Plain} (thread : 
       good-change g (wrote-image a g.working) i.head (i.uid ∙ up) i.order
       (kept-indexed (index-then (uid-index (taken sz tr e s name) sz (note next_uid_at tr + 1)) kept)
       (took (good-shaped g) g.index e s (fresh_header e (note next_uid_at tr) name.board) name.key v h f new words))
-      (row-epoch g thread name (some v) within) (fifo-after g e name (some v) (λ b. value-owes b))
+      (row-epoch g thread name (Some v) within) (fifo-after g e name (Some v) (λ b. value-owes b))
       (new-inv g.inv record {
         operation = o;
         joins = change-joins g a i h;
@@ -97,7 +92,7 @@ module _ {sz : Sizes} {start : Jobs} {wk l tr : List ℕ} {p : Plain} (thread : 
   e = open_epoch tr thread
 
   abbrev Good' : Changed → Type 0
-  Good' = Fine sz start l p thread (job_name j.key) (some j.value)
+  Good' = Fine sz start l p thread (job_name j.key) (Some j.value)
 
   made-fine : (s : ℕ) → s < sz.n → free_at wk s ≡ true → Missing sz (table wk tr) (job_name j.key) e → note next_uid_at tr ≤ most_number → Good' (new_at sz (table wk tr) e s j)
   unfolding new_at
@@ -123,23 +118,23 @@ module _ {sz : Sizes} {start : Jobs} {wk l tr : List ℕ} {p : Plain} (thread : 
       (fine-declines g (ltb most_number (note next_uid_at tr)) NoUid _
       (λ q. go (ltb-false most_number (note next_uid_at tr) q) (room sz (table wk tr) 2) refl))
     where
-      go : note next_uid_at tr ≤ most_number → (f : Found) → room sz (table wk tr) 2 ≡ f → Good' (new_in f sz (table wk tr) e j)
-      go u (At s) q = let b = room_says sz (table wk tr) 2 s h q in made-fine s b.0 b.1 m u
-      go u Nothing q = fine-refused g Full
+      go : note next_uid_at tr ≤ most_number → (f : Option ℕ) → room sz (table wk tr) 2 ≡ f → Good' (new_in f sz (table wk tr) e j)
+      go u (Some s) q = let b = room_says sz (table wk tr) 2 s h q in made-fine s b.0 b.1 m u
+      go u None q = fine-refused g Full
 
   -- 9 and 11
   pub opened-fine : note last_at tr < sz.n → Good' (new_open sz (table wk tr) j e)
   unfolding new_open
   opened-fine h = go (lookup sz (table wk tr) (job_name j.key) e) refl
     where
-      go : (k : Lookup) → lookup sz (table wk tr) (job_name j.key) e ≡ k → Good' (new_looked k sz (table wk tr) e j)
-      go look.Later q = fine-refused g Newer
-      go (look.Live s) q = fine-refused g JobExists
-      go look.Absent q = absent-fine h (absent-says sz (table wk tr) (job_name j.key) e q)
+      go : (k : Result (Option ℕ) Refusal) → lookup sz (table wk tr) (job_name j.key) e ≡ k → Good' (new_looked k sz (table wk tr) e j)
+      go (Err r) q = fine-refused g r
+      go (Ok (Some s)) q = fine-refused g JobExists
+      go (Ok None) q = absent-fine h (absent-says sz (table wk tr) (job_name j.key) e q)
 
 -- 5, 7 and 8
 pub new-good : {sz : Sizes} {start : Jobs} {st : Store} {p : Plain} (thread : ℕ) (j : Job) → Good sz start st p
-    → Good sz start (new_job st thread j).store (told_change thread (job_name j.key) (some j.value) (new_job st thread j).reply p)
+    → Good sz start (new_job st thread j).store (told_change thread (job_name j.key) (Some j.value) (new_job st thread j).reply p)
 unfolding new_job new_sized new_open
 new-good {sz} {start} {st} {p} thread j g =
     fine-call (new_sized thread j) g

@@ -7,7 +7,6 @@ use mathlib.Core.List.{List, ◌∷◌, Memᴰ}
 use Rattle.std.proofs.Common.{leb-false, eq-eqb, ne_eqb, arith}
 use Rattle.std.proofs.Math.Decide.{ℕ_discrete}
 use Rattle.std.proofs.Math.Path.{refl, fun_ext}
-use Rattle.reply.specs.declared.Check.{Check}
 use Rattle.reply.specs.declared.Refusal.TheVariants.{NoThread, AlreadyOpen}
 use Rattle.transient.specs.declared.sizes.Sizes.{Sizes}
 use Rattle.transient.specs.Layout.{open_epoch, set_open}
@@ -25,6 +24,7 @@ use Rattle.guarantee.specs.View.{view, same_view}
 use Rattle.guarantee.proofs.Indexing.{kept-indexed}
 use Rattle.guarantee.proofs.Good.{Opens, Good}
 use Rattle.guarantee.proofs.Changing.{way-way, call-way, sizes-is}
+use Rattle.reply.specs.Refusals.{Check}
 
 -- ---- an open epoch set
 module _ {sz : Sizes} {start : Jobs} {wk l tr : List ℕ} {p : Plain} (thread e : ℕ) (ended' : List ℕ) (g : Good sz start (store wk l tr) p) (within : thread < sz.t)

@@ -1,9 +1,9 @@
 -- Append and take keep the invariant; and a take takes the front.
-use Rattle.std.specs.Prelude.{ℕ, ◌+◌, ◌-◌, ◌≤◌, ◌<◌, ◌≡◌, true, ◌≢◌, List, length}
+use Rattle.reply.specs.declared.Refusal.{Refusal}
+use Rattle.std.specs.Prelude.{ℕ, ◌+◌, ◌-◌, ◌≤◌, ◌<◌, ◌≡◌, true, ◌≢◌, List, length, Option, Some, None, Ok, Err, Result}
 use Rattle.std.proofs.Math.Path.{refl}
 use Rattle.std.proofs.Common.{sym, ap, ◌∙◌}
 use Rattle.std.proofs.Math.Bool.{false}
-use Rattle.std.proofs.Math.Option.{none, some}
 use Rattle.std.proofs.Math.Dec.{ltb, eqb}
 use borrow.Author.Tests.{ltb-false, eqb-true, eq-eqb, ne_eqb, lt-ltb, not-false}
 use native.Mathlib.Omega.{arith}
@@ -11,12 +11,8 @@ use Rattle.std.proofs.Math.Decide.{dec_le}
 use Rattle.search.specs.Bools.{never, not-is-true, and_both, and_left, and_right, or_left, or_right}
 use Rattle.search.specs.Some.{any_of, some-none}
 use Rattle.search.specs.Least.{least-found}
-use Rattle.search.specs.declared.Found.{Found}
-use Rattle.search.specs.declared.Found.TheVariants.{At, Nothing}
-use Rattle.reply.specs.declared.Check.{Check}
-use Rattle.reply.specs.declared.Check.TheVariants.{Accepted, Refused}
 use Rattle.reply.specs.declared.Refusal.TheVariants.{Newer, NoUid, Full, QueueEmpty}
-use Rattle.reply.specs.Refusals.{by_check}
+use Rattle.reply.specs.Refusals.{Check, by_check}
 use Rattle.image.specs.Layout.{most_number, queue_board, is_payload, header, key_at}
 use Rattle.image.specs.declared.name.Name.{Name}
 use Rattle.image.specs.Name.{entry_name, name-is as name-made, names-meet, key-same}
@@ -25,14 +21,11 @@ use Rattle.transient.specs.Layout.{note, last_at, next_uid_at, next_order_at, op
 use Rattle.transient.specs.Laws.{order-index}
 use Rattle.transient.specs.Store.{Store, store, table, table_of}
 use Rattle.transient.specs.Calls.{Changed, on_store}
-use Rattle.table.specs.declared.find.Lookup.{Lookup}
-use Rattle.table.specs.declared.find.Lookup.TheVariants as look
 use Rattle.table.specs.Find.{room, free_at}
 use Rattle.jobs.specs.Job.{made}
 use Rattle.job_delete.specs.Delete.{delete_at}
 use Rattle.queue.specs.Front.{entry_newer_at, entry_at, front_slot, front_lookup}
 use Rattle.queue.specs.Laws.{Faced, front-faced}
-use Rattle.queue_append.specs.declared.Append.TheVariants.{Given, Declined}
 use Rattle.queue_append.specs.Append.{append_open, append_entry}
 use Rattle.queue_append.specs.Stages.{bad_value, no_number, append_at, append_in, append-open-is, append_sized}
 use Rattle.queue_take.specs.Take.{take_entry}
@@ -79,7 +72,7 @@ module _ {sz : Sizes} {start : Jobs} {st : Store} {p : Plain} (g : Good sz start
 
   -- the front's slot holds the live entry with the smallest number
   front_of : {e s : ℕ} (thread : ℕ) → thread < sz.t → open_epoch st.transient thread ≢ 0 → open_epoch st.transient thread ≡ e
-      → any_of (entry_newer_at st.working e) sz.n ≡ false → front_slot sz (table_of st) ≡ At s
+      → any_of (entry_newer_at st.working e) sz.n ≡ false → front_slot sz (table_of st) ≡ Some s
       → (s < sz.n) × Foremost e s (state_of sz start st p)
   unfolding front_slot entry_at
   front_of {e} {s} thread within begun is q found =
@@ -120,7 +113,7 @@ module _ {sz : Sizes} {start : Jobs} {wk l tr : List ℕ} {p : Plain} (thread : 
   order = note next_order_at tr
 
   abbrev Good' : Changed → Type 0
-  Good' = Fine sz start l p thread (entry_name order) (some value)
+  Good' = Fine sz start l p thread (entry_name order) (Some value)
 
   -- no slot has the number that is given
   given-fresh : order ≤ most_number → Fresh (view (store wk l tr) sz p.clock) e order (entry_name order) (order + 1)
@@ -157,14 +150,14 @@ module _ {sz : Sizes} {start : Jobs} {wk l tr : List ℕ} {p : Plain} (thread : 
       (fine-declines g (any_of (entry_newer_at wk e) sz.n) Newer _
       (λ _. fine-declines g (no_number tr) NoUid _ (λ q. go (both_left q) (room sz (table wk tr) 2) refl)))
     where
-      go : (note next_uid_at tr ≤ most_number) × (order ≤ most_number) → (f : Found) → room sz (table wk tr) 2 ≡ f → Good' (append_in f sz (table wk tr) e value)
-      go b (At s) q = let r = room_says sz (table wk tr) 2 s last q in appended-fine s r.0 r.1 b.0 b.1
-      go b Nothing q = fine-refused g Full
+      go : (note next_uid_at tr ≤ most_number) × (order ≤ most_number) → (f : Option ℕ) → room sz (table wk tr) 2 ≡ f → Good' (append_in f sz (table wk tr) e value)
+      go b (Some s) q = let r = room_says sz (table wk tr) 2 s last q in appended-fine s r.0 r.1 b.0 b.1
+      go b None q = fine-refused g Full
 
 -- ---- take
 -- what is said of a change under one name is said of it under the same
-fine-as : {sz : Sizes} {start : Jobs} {l : List ℕ} {p : Plain} {thread : ℕ} {k k' : Name} {ch : Changed} → k' ≡ k → Fine sz start l p thread k none ch
-    → Fine sz start l p thread k' none ch
+fine-as : {sz : Sizes} {start : Jobs} {l : List ℕ} {p : Plain} {thread : ℕ} {k k' : Name} {ch : Changed} → k' ≡ k → Fine sz start l p thread k None ch
+    → Fine sz start l p thread k' None ch
 fine-as q f = rw q f
 
 module _ {sz : Sizes} {start : Jobs} {wk l tr : List ℕ} {p : Plain} (thread : ℕ) (g : Good sz start (store wk l tr) p)
@@ -176,10 +169,10 @@ module _ {sz : Sizes} {start : Jobs} {wk l tr : List ℕ} {p : Plain} (thread : 
   abbrev name_in : ℕ → Name
   name_in s = entry_name (key_at wk sz.n sz.w s)
 
-  front-order : {s : ℕ} → front_slot sz (table wk tr) ≡ At s → entry_name (front_order (store wk l tr)) ≡ name_in s
+  front-order : {s : ℕ} → front_slot sz (table wk tr) ≡ Some s → entry_name (front_order (store wk l tr)) ≡ name_in s
   front-order q = rw (sizes-is g, q)
 
-  taken_fine : (s : ℕ) → Faced sz (table wk tr) ep s → Fine sz start l p thread (name_in s) none (delete_at sz (table wk tr) ep s (key_at wk sz.n sz.w s))
+  taken_fine : (s : ℕ) → Faced sz (table wk tr) ep s → Fine sz start l p thread (name_in s) None (delete_at sz (table wk tr) ep s (key_at wk sz.n sz.w s))
   taken_fine s w =
       let f = front_of g thread within begun refl w.newest w.found in
       let h = f.0 in
@@ -189,21 +182,21 @@ module _ {sz : Sizes} {start : Jobs} {wk l tr : List ℕ} {p : Plain} (thread : 
       (λ _ _ d b. rw (key-same named) at (front-from g.inv f.1 d b)) last
 
   -- 9 and 17
-  take-fine : Fine sz start l p thread (entry_name (front_order (store wk l tr))) none (take_open sz (table wk tr) ep)
+  take-fine : Fine sz start l p thread (entry_name (front_order (store wk l tr))) None (take_open sz (table wk tr) ep)
   unfolding take_open
   take-fine = go (front_lookup sz (table wk tr) ep) refl
     where
-      go : (k : Lookup) → front_lookup sz (table wk tr) ep ≡ k → Fine sz start l p thread (entry_name (front_order (store wk l tr))) none (take_looked k sz (table wk tr) ep)
-      go look.Later q = fine-refused g Newer
-      go (look.Live s) q = let w = front-faced sz (table wk tr) ep s q in fine-as (front-order w.found) (taken_fine s w)
-      go look.Absent q = fine-refused g QueueEmpty
+      go : (k : Result (Option ℕ) Refusal) → front_lookup sz (table wk tr) ep ≡ k → Fine sz start l p thread (entry_name (front_order (store wk l tr))) None (take_looked k sz (table wk tr) ep)
+      go (Err r) q = fine-refused g r
+      go (Ok (Some s)) q = let w = front-faced sz (table wk tr) ep s q in fine-as (front-order w.found) (taken_fine s w)
+      go (Ok None) q = fine-refused g QueueEmpty
 
 -- ---- the calls: 5, 7 and 8
 -- the reference map hears the number from the reply
 told-given : {sz : Sizes} {start : Jobs} {x : Store} (p : Plain) (thread order : ℕ) (value : List ℕ) (k : Check)
-    → Good sz start x (told_change thread (entry_name order) (some value) k p) → Good sz start x (told_append thread value (by_check k Declined (Given order)) p)
-told-given p thread order value Accepted g = g
-told-given p thread order value (Refused r) g = g
+    → Good sz start x (told_change thread (entry_name order) (Some value) k p) → Good sz start x (told_append thread value (by_check k Err (Ok order)) p)
+told-given p thread order value (Ok _) g = g
+told-given p thread order value (Err r) g = g
 
 value-words : (sz : Sizes) (value : List ℕ) → 2 ≤ sz.w → bad_value sz value ≡ false → length value + 1 ≡ sz.w
 unfolding bad_value
@@ -219,6 +212,6 @@ module _ {sz : Sizes} {start : Jobs} {st : Store} {p : Plain} (thread : ℕ) whe
       (λ a. fine-way g (bad_value sz value) _
       (λ h b c. append-fine thread value g h b (value-words sz value g.working.sized.sizes.width-lo c) (order-low g a) (last-below g a))))
 
-  pub take-good : Good sz start st p → Good sz start (take_entry st thread).store (told_change thread (entry_name (front_order st)) none (take_entry st thread).reply p)
+  pub take-good : Good sz start st p → Good sz start (take_entry st thread).store (told_change thread (entry_name (front_order st)) None (take_entry st thread).reply p)
   unfolding take_entry take_sized take_open
   take-good g = fine-call (take_sized thread) g (λ a. fine-way g false _ (λ h b c. take-fine thread g h b (last-below g a)))

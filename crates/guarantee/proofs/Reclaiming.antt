@@ -1,5 +1,5 @@
 -- The first steps of an advance: each payload retired in c − 2 and each DELETE of c − 3 becomes free in both images.
-use Rattle.std.specs.Prelude.{ℕ, ◌+◌, ◌≤◌, ◌<◌, ◌≡◌, Bool, true, false, ◌&&◌, ◌||◌, ◌⊎◌, List, leb}
+use Rattle.std.specs.Prelude.{ℕ, ◌+◌, ◌≤◌, ◌<◌, ◌≡◌, Bool, true, false, ◌&&◌, ◌||◌, ◌⊎◌, List, leb, Option, Some, None}
 use Rattle.std.proofs.Math.Path.{refl}
 use Rattle.std.proofs.Math.Bool.{not}
 use Rattle.std.proofs.Math.Logic.{inl, inr, ⊎_elim}
@@ -9,8 +9,6 @@ use native.Mathlib.Omega.{arith}
 use Rattle.std.proofs.Math.Decide.{dec_lt}
 use Rattle.search.specs.Bools.{never, refuted, not-is-true, and_left, and_right, and_both, or_left, or_right}
 use Rattle.search.specs.First.{found_first, found_nothing, where_found}
-use Rattle.search.specs.declared.Found.{Found}
-use Rattle.search.specs.declared.Found.TheVariants.{At, Nothing}
 use Rattle.image.specs.declared.header.Header.{Header}
 use Rattle.image.specs.Layout.{has_zero, is_filled, is_payload, header, contents, free_header}
 use Rattle.image.specs.Line.{header_line, store_line}
@@ -164,10 +162,10 @@ module _ {sz : Sizes} {start : Jobs} {st : Store} {p : Plain} (y : Ready sz star
   unfolding reclaim_from due_from reclaimed
   reclaim-good q i = go (due_from sz (table_of st) c q) refl
     where
-      go : (f : Found) → due_from sz (table_of st) c q ≡ f
+      go : (f : Option ℕ) → due_from sz (table_of st) c q ≡ f
           → Owed sz start p (where_found f (reclaimed sz st) (flush_from sz st c 0))
-      go (At s) d =
+      go (Some s) d =
           let f = found_first (dues q) sz.n d in
           let k = f.below in
           freed-good s k (and_right (leb q s) _ f.passes) (looks-inv s i (record { swept = λ m a b. spared q m a (f.before m b) (omega arith) }))
-      go Nothing d = flush-good y 0 (looks-inv sz.n i (record { swept = λ m a b. spared q m a (found_nothing (dues q) sz.n d m b) b }))
+      go None d = flush-good y 0 (looks-inv sz.n i (record { swept = λ m a b. spared q m a (found_nothing (dues q) sz.n d m b) b }))

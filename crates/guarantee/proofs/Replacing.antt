@@ -1,13 +1,13 @@
 -- Set and delete keep the invariant: in the version's own slot, by a later version, or with nothing changed. What is said of a delete holds
 -- of any name.
-use Rattle.std.specs.Prelude.{ℕ, ◌+◌, ◌-◌, ◌≤◌, ◌<◌, ◌≡◌, true, false, ◌≢◌, List, get_or, drop, eqb}
+use Rattle.reply.specs.declared.Refusal.{Refusal}
+use Rattle.std.specs.Prelude.{ℕ, ◌+◌, ◌-◌, ◌≤◌, ◌<◌, ◌≡◌, true, false, ◌≢◌, List, get_or, drop, eqb, Option, Some, None, Result, Ok, Err}
 use Rattle.std.proofs.Math.Path.{refl}
 use Rattle.std.proofs.Common.{sym, ◌∙◌, ⊎_elim, eqb-true, arith}
-use Rattle.std.proofs.Math.Option.{none, some}
 use Rattle.std.proofs.Math.ListN.{length, replicate, length-replicate}
 use Rattle.std.proofs.lemmas.Bool.{eqb-false}
 use Rattle.search.specs.Bools.{cases}
-use Rattle.reply.specs.declared.Refusal.TheVariants.{Newer, NoJob}
+use Rattle.reply.specs.declared.Refusal.TheVariants.{NoJob}
 use Rattle.image.specs.Layout.{header, contents, key_at, free_header, anti_header}
 use Rattle.image.specs.Requires.{slot}
 use Rattle.image.specs.Laws.{key-contents}
@@ -18,8 +18,6 @@ use Rattle.transient.specs.Layout.{note, last_at, open_epoch, retired_in}
 use Rattle.transient.specs.Store.{Store, store, table}
 use Rattle.transient.specs.Calls.{accepted}
 use Rattle.transient.specs.Laws.{front_same}
-use Rattle.table.specs.declared.find.Lookup.{Lookup}
-use Rattle.table.specs.declared.find.Lookup.TheVariants as look
 use Rattle.table.specs.Find.{lookup}
 use Rattle.jobs.specs.Job.{Job, job, bad_job}
 use Rattle.jobs.specs.Laws.{job-words}
@@ -76,7 +74,7 @@ module _ {sz : Sizes} {start : Jobs} {wk l tr : List ℕ} {p : Plain} (thread : 
     epoch-is : old.working.epoch ≡ e
     epoch-is = rw at_slot same
 
-    rewritten-fine : (v : Value) → length v + 1 ≡ sz.w → Fine sz start l p thread name (some v) (rewritten sz (table wk tr) e s v)
+    rewritten-fine : (v : Value) → length v + 1 ≡ sz.w → Fine sz start l p thread name (Some v) (rewritten sz (table wk tr) e s v)
     unfolding rewritten
     rewritten-fine v long =
         let a = value-wrote {sz = sz} g.working.sized lives.below v long in
@@ -87,11 +85,11 @@ module _ {sz : Sizes} {start : Jobs} {wk l tr : List ℕ} {p : Plain} (thread : 
         record {
           good = good-change g (wrote-image a g.working) j.head j.uid j.order
               (rewritten-stays (good-shaped g) g.index e lives.below (lives-called g lives) v long)
-              (row-epoch g thread name (some v) within) (fifo-after g e name (some v) (λ b. value-owes b))
+              (row-epoch g thread name (Some v) within) (fifo-after g e name (Some v) (λ b. value-owes b))
               (rw lives.named at (set-inv g.inv (in-place-as x r current (change-joins g a j lives.below) epoch-is (change-put g a j lives.below))));
         }
 
-    turned-fine : Owes g e name none → Fine sz start l p thread name none (turned sz (table wk tr) e s)
+    turned-fine : Owes g e name None → Fine sz start l p thread name None (turned sz (table wk tr) e s)
     unfolding turned
     turned-fine owes =
         let h = anti_header e (header wk s) in
@@ -102,11 +100,11 @@ module _ {sz : Sizes} {start : Jobs} {wk l tr : List ℕ} {p : Plain} (thread : 
         record {
           good = good-change g (wrote-image a g.working) j.head j.uid j.order
               (turned-stays (good-shaped g) g.index e lives.below (lives-called g lives) begun)
-              (row-epoch g thread name none within) (fifo-after g e name none owes)
+              (row-epoch g thread name None within) (fifo-after g e name None owes)
               (rw lives.named at (turn-inv g.inv (in-place-as x r current (change-joins g a j lives.below) epoch-is (change-put g a j lives.below))));
         }
 
-    freed-fine : Owes g e name none → (header wk s).kind ≡ 1 → Fine sz start l p thread name none (freed_at sz (table wk tr) e s name.key)
+    freed-fine : Owes g e name None → (header wk s).kind ≡ 1 → Fine sz start l p thread name None (freed_at sz (table wk tr) e s name.key)
     unfolding freed_at
     freed-fine owes alloc =
         let a = header-wrote g.working.sized lives.below free_header in
@@ -116,7 +114,7 @@ module _ {sz : Sizes} {start : Jobs} {wk l tr : List ℕ} {p : Plain} (thread : 
         record {
           good = good-change g (wrote-image a g.working) j.head j.uid j.order
               (freed-stays (good-shaped g) g.index e lives.below (lives-called g lives))
-              (row-epoch g thread name none within) (fifo-after g e name none owes)
+              (row-epoch g thread name None within) (fifo-after g e name None owes)
               (rw lives.named at (unmake-inv g.inv record {
                 change = in-place-as x (sym lives.current) current (change-joins g a j lives.below) epoch-is (change-put g a j lives.below);
                 alloc = one;
@@ -128,11 +126,11 @@ module _ {sz : Sizes} {start : Jobs} {wk l tr : List ℕ} {p : Plain} (thread : 
     older : (header wk s).epoch < e
     older = let q : (header wk s).epoch ≤ e = rw at_slot at latest in omega arith
 
-    updated-fine : note last_at tr < sz.n → (v : Value) → length v + 1 ≡ sz.w → Fine sz start l p thread name (some v) (updated sz (table wk tr) e s (job name.key v))
+    updated-fine : note last_at tr < sz.n → (v : Value) → length v + 1 ≡ sz.w → Fine sz start l p thread name (Some v) (updated sz (table wk tr) e s (job name.key v))
     unfolding updated
     updated-fine h v long = super-fine thread name s (steps.updates v) g within begun long lives older (λ b. value-owes b) 2 h
 
-    covered-fine : Owes g e name none → note last_at tr < sz.n → Fine sz start l p thread name none (covered sz (table wk tr) e s name.key)
+    covered-fine : Owes g e name None → note last_at tr < sz.n → Fine sz start l p thread name None (covered sz (table wk tr) e s name.key)
     unfolding covered
     covered-fine owes h =
         let zeros : Value = replicate (sz.w - 1) 0 in
@@ -140,19 +138,19 @@ module _ {sz : Sizes} {start : Jobs} {wk l tr : List ℕ} {p : Plain} (thread : 
         super-fine thread name s (steps.removes zeros) g within begun long lives older owes 1 h
 
   -- ---- the value that it has, again: the row alone has one entry more
-  resaved-fine : old.working.epoch ≤ e → (v : Value) → length v + 1 ≡ sz.w → same_value sz wk s v ≡ true → Fine sz start l p thread name (some v) (accepted (table wk tr))
+  resaved-fine : old.working.epoch ≤ e → (v : Value) → length v + 1 ≡ sz.w → same_value sz wk s v ≡ true → Fine sz start l p thread name (Some v) (accepted (table wk tr))
   resaved-fine latest v long same =
       let x : v ≡ old.working.value =
       same-says (record { slot = slot g.working.sized lives.below; words = omega arith }) same
       ∙ sym (working-value (store wk l tr) sz p.clock (omega arith) s lives.below) in
       record {
         good = good-change g g.working front_same.head refl refl g.index
-            (row-epoch g thread name (some v) within) (fifo-after g e name (some v) (λ b. value-owes b))
+            (row-epoch g thread name (Some v) within) (fifo-after g e name (Some v) (λ b. value-owes b))
             (rw (lives.named, ← x) at (resave-inv g.inv record { of = current; begun = latest }));
       }
 
   -- ---- the job of the name goes away
-  pub gone-fine : old.working.epoch ≤ e → Owes g e name none → note last_at tr < sz.n → Fine sz start l p thread name none (delete_at sz (table wk tr) e s name.key)
+  pub gone-fine : old.working.epoch ≤ e → Owes g e name None → note last_at tr < sz.n → Fine sz start l p thread name None (delete_at sz (table wk tr) e s name.key)
   gone-fine latest owes last =
       ⊎_elim
       (λ (a : eqb (header wk s).epoch e ≡ true).
@@ -170,7 +168,7 @@ module _ {sz : Sizes} {start : Jobs} {wk l tr : List ℕ} {p : Plain} (thread : 
   ep = open_epoch tr thread
 
   set-at-fine : (s : ℕ) (j : Job) → length j.value + 1 ≡ sz.w → Lives g (job_name j.key) s → (view (store wk l tr) sz p.clock s).working.epoch ≤ ep
-      → Fine sz start l p thread (job_name j.key) (some j.value) (set_at sz (table wk tr) ep s j)
+      → Fine sz start l p thread (job_name j.key) (Some j.value) (set_at sz (table wk tr) ep s j)
   set-at-fine s j long lives latest =
       ⊎_elim
       (λ (a : eqb (header wk s).epoch ep ≡ true). rw (set-at-is sz (table wk tr) ep s j, a) (rewritten-fine thread (job_name j.key) s g within begun lives (eqb-true _ _ a) j.value long))
@@ -178,47 +176,47 @@ module _ {sz : Sizes} {start : Jobs} {wk l tr : List ℕ} {p : Plain} (thread : 
       (cases (eqb (header wk s).epoch ep))
 
   set-live-fine : (s : ℕ) (j : Job) → length j.value + 1 ≡ sz.w → Holding sz (table wk tr) (job_name j.key) ep s
-      → Fine sz start l p thread (job_name j.key) (some j.value) (set_live sz (table wk tr) ep s j)
+      → Fine sz start l p thread (job_name j.key) (Some j.value) (set_live sz (table wk tr) ep s j)
   set-live-fine s j long h =
       let lives = live_of g h.found in
       let latest = no-later-of g h.newest s lives.payload.0 lives.named in
-      live-way (Fine sz start l p thread (job_name j.key) (some j.value)) sz (table wk tr) ep s j
+      live-way (Fine sz start l p thread (job_name j.key) (Some j.value)) sz (table wk tr) ep s j
       (λ q same. resaved-fine thread (job_name j.key) s g within begun lives latest j.value long same)
       (set-at-fine s j long lives latest)
 
-  pub set-opened-fine : (j : Job) → length j.value + 1 ≡ sz.w → Fine sz start l p thread (job_name j.key) (some j.value) (set_opened sz (table wk tr) j ep)
+  pub set-opened-fine : (j : Job) → length j.value + 1 ≡ sz.w → Fine sz start l p thread (job_name j.key) (Some j.value) (set_opened sz (table wk tr) j ep)
   unfolding set_opened
   set-opened-fine j long = go (lookup sz (table wk tr) (job_name j.key) ep) refl
     where
-      go : (k : Lookup) → lookup sz (table wk tr) (job_name j.key) ep ≡ k → Fine sz start l p thread (job_name j.key) (some j.value) (set_looked k sz (table wk tr) ep j)
-      go look.Later q = fine-refused g Newer
-      go (look.Live s) q = set-live-fine s j long (live-says sz (table wk tr) (job_name j.key) ep q)
-      go look.Absent q = fine-refused g NoJob
+      go : (k : Result (Option ℕ) Refusal) → lookup sz (table wk tr) (job_name j.key) ep ≡ k → Fine sz start l p thread (job_name j.key) (Some j.value) (set_looked k sz (table wk tr) ep j)
+      go (Err r) q = fine-refused g r
+      go (Ok (Some s)) q = set-live-fine s j long (live-says sz (table wk tr) (job_name j.key) ep q)
+      go (Ok None) q = fine-refused g NoJob
 
-  delete-at-fine : (s key : ℕ) → Holding sz (table wk tr) (job_name key) ep s → Fine sz start l p thread (job_name key) none (delete_at sz (table wk tr) ep s key)
+  delete-at-fine : (s key : ℕ) → Holding sz (table wk tr) (job_name key) ep s → Fine sz start l p thread (job_name key) None (delete_at sz (table wk tr) ep s key)
   delete-at-fine s key h =
       let lives = live_of g h.found in
       gone-fine thread (job_name key) s g within begun lives (no-later-of g h.newest s lives.payload.0 lives.named) (λ b. job-owes b) last
 
-  pub delete-open-fine : (key : ℕ) → Fine sz start l p thread (job_name key) none (delete_open sz (table wk tr) key ep)
+  pub delete-open-fine : (key : ℕ) → Fine sz start l p thread (job_name key) None (delete_open sz (table wk tr) key ep)
   unfolding delete_open
   delete-open-fine key = go (lookup sz (table wk tr) (job_name key) ep) refl
     where
-      go : (k : Lookup) → lookup sz (table wk tr) (job_name key) ep ≡ k → Fine sz start l p thread (job_name key) none (delete_looked k sz (table wk tr) ep key)
-      go look.Later q = fine-refused g Newer
-      go (look.Live s) q = delete-at-fine s key (live-says sz (table wk tr) (job_name key) ep q)
-      go look.Absent q = fine-refused g NoJob
+      go : (k : Result (Option ℕ) Refusal) → lookup sz (table wk tr) (job_name key) ep ≡ k → Fine sz start l p thread (job_name key) None (delete_looked k sz (table wk tr) ep key)
+      go (Err r) q = fine-refused g r
+      go (Ok (Some s)) q = delete-at-fine s key (live-says sz (table wk tr) (job_name key) ep q)
+      go (Ok None) q = fine-refused g NoJob
 
 -- ---- the calls
 module _ {sz : Sizes} {start : Jobs} {st : Store} {p : Plain} (thread : ℕ) (g : Good sz start st p) where
-  pub set-good : (j : Job) → Good sz start (set_job st thread j).store (told_change thread (job_name j.key) (some j.value) (set_job st thread j).reply p)
+  pub set-good : (j : Job) → Good sz start (set_job st thread j).store (told_change thread (job_name j.key) (Some j.value) (set_job st thread j).reply p)
   unfolding set_job set_sized set_opened
   set-good j =
       fine-call (set_sized thread j) g
       (λ a. fine-way g (bad_job sz j) _
       (λ h b c. set-opened-fine thread g h b (last-below g a) j (omega (arith, job-words sz j c, g.working.sized.sizes.width-lo))))
 
-  pub delete-good : (key : ℕ) → Good sz start (delete_job st thread key).store (told_change thread (job_name key) none (delete_job st thread key).reply p)
+  pub delete-good : (key : ℕ) → Good sz start (delete_job st thread key).store (told_change thread (job_name key) None (delete_job st thread key).reply p)
   unfolding delete_job delete_sized delete_open
   delete-good key =
       fine-call (delete_sized thread key) g

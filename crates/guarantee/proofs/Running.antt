@@ -1,18 +1,16 @@
 -- Every moment of a run keeps the invariant.
 use Prim.Native.Nat.{ℕ, zero, suc, ◌+◌, ◌*◌, ◌≤◌}
-use Rattle.std.specs.Prelude.{◌≡◌}
+use Rattle.std.specs.Prelude.{◌≡◌, Result, Ok, Err}
 use Rattle.std.proofs.Math.Path.{refl}
 use Rattle.std.proofs.Common.{⊎_elim, arith}
 use mathlib.Core.List.Memᴰ
 use mathlib.Core.List.{List, [], ◌∷◌, Memᴰ}
-use Rattle.reply.specs.declared.Check.{Check}
-use Rattle.reply.specs.declared.Check.TheVariants.{Accepted, Refused}
-use Rattle.reply.specs.Refusals.{by_check}
+use Rattle.reply.specs.Refusals.{Check, by_check}
 use Rattle.image.specs.Layout.{slots_of}
 use Rattle.transient.specs.declared.sizes.Sizes.{Sizes}
 use Rattle.transient.specs.Store.{Store, table_of, sizes_of}
 use Rattle.step.specs.declared.Advance.{Advance}
-use Rattle.step.specs.declared.Advance.TheVariants.{WentOn, Ticked, Declined}
+use Rattle.step.specs.declared.Advance.TheVariants.{WentOn, Ticked}
 use Rattle.advance.specs.Advance.{advance}
 use Rattle.advance.specs.Stages.{most_lines}
 use Rattle.sync.specs.Sync.{sync_check, by_reply}
@@ -28,6 +26,7 @@ use Rattle.guarantee.proofs.Queueing.{append-good, take-good}
 use Rattle.guarantee.proofs.Copying.{write-back-good}
 use Rattle.guarantee.proofs.Advancing.{advance-good}
 use Rattle.guarantee.proofs.Starting.{start-good}
+use Rattle.reply.specs.declared.Refusal.{Refusal}
 
 module _ (sz : Sizes) (start : Jobs) where
   abbrev pub GoodAt : Moment → Type 0
@@ -98,11 +97,11 @@ module _ (sz : Sizes) (start : Jobs) where
       good-then (one (after_advance m)) (by_reply (advance m.store).reply on tick (λ _. stay)) (good-one (after_advance m) (advanced-good m g))
       (go (advance m.store).reply (advance-good g))
     where
-      go : (r : Advance) → Good sz start (advance m.store).store (told_advance r m.plain)
+      go : (r : Result Advance Refusal) → Good sz start (advance m.store).store (told_advance r m.plain)
           → GoodTrace (by_reply r on tick (λ _. stay) (record { store = (advance m.store).store; plain = told_advance r m.plain }))
-      go WentOn i = a _ i h
-      go Ticked i = b _ i (λ e j. omega (arith, h e j))
-      go (Declined r) i = good-stay _ i
+      go (Ok WentOn) i = a _ i h
+      go (Ok Ticked) i = b _ i (λ e j. omega (arith, h e j))
+      go (Err r) i = good-stay _ i
 
   syncing-good : (more ticks k : ℕ) (words : ℕ → List ℕ) (m : Moment) → GoodAt m → Ahead ticks m.plain → GoodTrace (syncing more ticks k words m)
   unfolding syncing
@@ -117,8 +116,8 @@ module _ (sz : Sizes) (start : Jobs) where
       (syncing-good more (suc ticks) (suc k) words) (syncing-good more ticks (suc k) words))
 
   synced-good : (k : Check) (words : ℕ → List ℕ) (m : Moment) → GoodAt m → GoodTrace (by_check k (λ _. stay m) (syncing (2 * most_lines (slots_of m.store.working)) 2 0 words m))
-  synced-good (Refused r) words m g = good-stay m g
-  synced-good Accepted words m g =
+  synced-good (Err r) words m g = good-stay m g
+  synced-good (Ok _) words m g =
       syncing-good (2 * most_lines (slots_of m.store.working)) 2 0 words m g (λ e i. omega (arith, g.past.ended-hi e i))
 
   -- ---- calls, and lists of calls

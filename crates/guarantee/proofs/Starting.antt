@@ -1,22 +1,18 @@
 -- The start: what format or a finished recovery leaves has the invariant.
-use Rattle.std.specs.Prelude.{ℕ, ◌≡◌, refl, true, not, List, length, eqb}
+use Rattle.std.specs.Prelude.{ℕ, ◌≡◌, refl, true, not, List, length, eqb, Option, Some, None, Ok, Err}
 use Rattle.std.proofs.Common.{◌∙◌, arith}
 use Rattle.std.proofs.lemmas.Bool.{not-false}
 use Rattle.search.specs.Bools.{not-is-true, and_right}
 use Rattle.search.specs.Largest.{largest-bounds}
-use Rattle.search.specs.declared.Found.{Found}
-use Rattle.search.specs.declared.Found.TheVariants.{At, Nothing}
-use Rattle.reply.specs.declared.Check.{Check}
-use Rattle.reply.specs.declared.Check.TheVariants.{Accepted, Refused}
 use Rattle.reply.specs.declared.Refusal.TheVariants.{BadSizes}
-use Rattle.reply.specs.Refusals.{not-refused}
+use Rattle.reply.specs.Refusals.{Check, not-refused}
 use Rattle.image.specs.Layout.{queue_board, key_at, slots_of, width_of}
 use Rattle.transient.specs.Layout.{threads_ok}
 use Rattle.transient.specs.Store.{Store, after_check}
 use Rattle.survival.specs.Survivors.{survivor, survives_on}
 use Rattle.acceptance.specs.Accept.{image_check}
 use Rattle.acceptance.specs.Sound.{accepted-says}
-use Rattle.recovery.specs.declared.Recovery.TheVariants.{Done, Declined}
+use Rattle.recovery.specs.declared.Recovery.TheVariants.{Done}
 use Rattle.recovery.specs.Recover.{next_freed, next_uid, next_order, lengths_fit, recover_check, freeing, recover}
 use Rattle.recovery.specs.Requires.{uid_of, finished}
 use Rattle.recovery.specs.Steps.{nonzero_at, done-survivors}
@@ -26,7 +22,7 @@ use Rattle.guarantee.proofs.Clean.{Begins, clean-good}
 use Rattle.guarantee.proofs.Fresh.{fresh-good, formats}
 
 -- ---- a recovery that is done
-recovered-good : (l : List ℕ) (len : ℕ) → image_check l ≡ Accepted → next_freed l (slots_of l) ≡ Nothing → threads_ok len (slots_of l) ≡ true
+recovered-good : (l : List ℕ) (len : ℕ) → image_check l ≡ Ok tt → next_freed l (slots_of l) ≡ None → threads_ok len (slots_of l) ≡ true
     → Begins (finished l len (slots_of l) (width_of l))
 unfolding finished nonzero_at next_uid next_order
 recovered-good l len ok none t =
@@ -49,18 +45,18 @@ recovered-good l len ok none t =
 
 -- what a call that replied done judged and found
 record Finishes (st : Store) : Type 0 where
-  accepted : image_check st.persistent ≡ Accepted
-  none : next_freed st.persistent (slots_of st.persistent) ≡ Nothing
+  accepted : image_check st.persistent ≡ Ok tt
+  none : next_freed st.persistent (slots_of st.persistent) ≡ None
   threads : threads_ok (length st.transient) (slots_of st.persistent) ≡ true
   leaves : (recover st).store ≡ finished st.persistent (length st.transient) (slots_of st.persistent) (width_of st.persistent)
 
 -- only an accepted call with nothing to free replies done
-done-only : (k : Check) (f : Found) (st : Store) (n w : ℕ) → (after_check k Declined st (freeing f st n w)).reply ≡ Done → (k ≡ Accepted) × (f ≡ Nothing)
-done-only (Refused r) f st n w e = let z : ◌≡◌ {A = ℕ} 0 1 = cc in absurd (omega arith)
-done-only Accepted (At s) st n w e = let z : ◌≡◌ {A = ℕ} 0 1 = cc in absurd (omega arith)
-done-only Accepted Nothing st n w e = (refl, refl)
+done-only : (k : Check) (f : Option ℕ) (st : Store) (n w : ℕ) → (after_check k Err st (freeing f st n w)).reply ≡ Ok Done → (k ≡ Ok tt) × (f ≡ None)
+done-only (Err r) f st n w e = let z : ◌≡◌ {A = ℕ} 0 1 = cc in absurd (omega arith)
+done-only (Ok _) (Some s) st n w e = let z : ◌≡◌ {A = ℕ} 0 1 = cc in absurd (omega arith)
+done-only (Ok _) None st n w e = (refl, refl)
 
-finishes : (st : Store) → (recover st).reply ≡ Done → Finishes st
+finishes : (st : Store) → (recover st).reply ≡ Ok Done → Finishes st
 unfolding recover recover_check lengths_fit finished
 finishes st e =
     let l = st.persistent in

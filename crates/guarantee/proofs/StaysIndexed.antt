@@ -1,5 +1,6 @@
 -- A change of a job leaves a right index right, in every store, also one that no run leaves: damaged images, or other notes.
-use Rattle.std.specs.Prelude.{ℕ, ◌+◌, ◌-◌, ◌≤◌, ◌<◌, ◌≡◌, Bool, false, ◌≢◌, List, length, replicate, ltb}
+use Rattle.reply.specs.declared.Refusal.{Refusal}
+use Rattle.std.specs.Prelude.{ℕ, ◌+◌, ◌-◌, ◌≤◌, ◌<◌, ◌≡◌, Bool, false, ◌≢◌, List, length, replicate, ltb, Option, Some, None, Result, Ok, Err}
 use Rattle.std.proofs.Math.Path.{refl}
 use Rattle.std.proofs.Common.{◌∙◌, arith}
 use Rattle.std.proofs.Math.Bool.{true}
@@ -8,9 +9,6 @@ use Rattle.std.proofs.Math.ListN.{length-replicate}
 use Rattle.std.proofs.Math.Dec.{eqb}
 use Rattle.search.specs.Bools.{cases, and_right}
 use Rattle.search.specs.First.{found_first}
-use Rattle.search.specs.declared.Found.{Found}
-use Rattle.search.specs.declared.Found.TheVariants.{At, Nothing}
-use Rattle.reply.specs.declared.Check.{Check}
 use Rattle.reply.specs.declared.Refusal.TheVariants.{NoUid}
 use Rattle.image.specs.declared.header.Header.{Header}
 use Rattle.image.specs.Layout.{most_number, jobs_board, is_filled, header_of, header, fresh_header}
@@ -24,8 +22,6 @@ use Rattle.transient.specs.Calls.{Changed, on_store}
 use Rattle.transient.specs.Passed.{in_store, entry-with}
 use Rattle.transient.specs.Again.{TableKept, kept-sizes}
 use Rattle.index.specs.Indexed.{Indexed}
-use Rattle.table.specs.declared.find.Lookup.{Lookup}
-use Rattle.table.specs.declared.find.Lookup.TheVariants.{Later, Live, Absent}
 use Rattle.table.specs.Find.{listed, live_on, live_slot, lookup, free_at, room}
 use Rattle.table.specs.Fill.{taken}
 use Rattle.table.specs.Laws.{Called, lookup-below}
@@ -47,6 +43,7 @@ use Rattle.job_batch.specs.Ways.{kind-way}
 use Rattle.guarantee.proofs.Indexing.{Stays, made-filled, later-filled, kept-indexed, took, rewritten-stays, turned-stays, freed-stays}
 use Rattle.guarantee.proofs.Lookups.{live-says, room_says}
 use Rattle.guarantee.proofs.Changing.{way-way, call-way}
+use Rattle.reply.specs.Refusals.{Check}
 
 -- ---- a call's part within an operation of epoch e
 module _ {wk tr : List ℕ} {z : Sizes} (y : Entered wk tr z) (i : Indexed z wk tr) (e : ℕ) (begun : e ≢ 0) where
@@ -67,21 +64,21 @@ module _ {wk tr : List ℕ} {z : Sizes} (y : Entered wk tr z) (i : Indexed z wk 
   absent-stays : (j : Job) → bad_job z j ≡ false → Stays z (new_absent z tb e j)
   absent-stays j c = rw (new-absent-is z tb e j) (declines-way (Stays z) tb (ltb most_number (note next_uid_at tr)) NoUid _ i (λ u. go (room z tb 2) refl))
     where
-      go : (f : Found) → room z tb 2 ≡ f → Stays z (new_in f z tb e j)
-      go (At s) q = let b = room_says z tb 2 s y.last q in made-stays s j b.0 b.1 (job-long j c)
-      go Nothing q = i
+      go : (f : Option ℕ) → room z tb 2 ≡ f → Stays z (new_in f z tb e j)
+      go (Some s) q = let b = room_says z tb 2 s y.last q in made-stays s j b.0 b.1 (job-long j c)
+      go None q = i
 
   new-stays : (j : Job) → bad_job z j ≡ false → Stays z (new_open z tb j e)
   unfolding new_open
   new-stays j c = go (lookup z tb (job_name j.key) e)
     where
-      go : (k : Lookup) → Stays z (new_looked k z tb e j)
-      go Later = i
-      go (Live s) = i
-      go Absent = absent-stays j c
+      go : (k : Result (Option ℕ) Refusal) → Stays z (new_looked k z tb e j)
+      go (Err r) = i
+      go (Ok (Some s)) = i
+      go (Ok None) = absent-stays j c
 
   -- ---- the live slot that a look-up found
-  module _ (key s : ℕ) (q : lookup z tb (job_name key) e ≡ Live s) where
+  module _ (key s : ℕ) (q : lookup z tb (job_name key) e ≡ Ok (Some s)) where
     below : s < z.n
     below = lookup-below z tb (job_name key) e s q
 
@@ -99,12 +96,12 @@ module _ {wk tr : List ℕ} {z : Sizes} (y : Entered wk tr z) (i : Indexed z wk 
         h : Header
         h = header_of kind e (header wk s).uid (header wk s).board
 
-        go : (g : Found) → room z tb k ≡ g → Stays z (superseded g z tb e s h key value)
-        go (At f) r =
+        go : (g : Option ℕ) → room z tb k ≡ g → Stays z (superseded g z tb e s h key value)
+        go (Some f) r =
             let b = room_says z tb k f y.last r in
             let full : is_filled h ≡ true = later-filled (header wk s) lo hi (omega arith) called.filled in
             kept-indexed (retired-index (taken z tr e f (name_of h.board key)) z s e below) (took y.shaped i e f h key value b.0 b.1 full long)
-        go Nothing r = i
+        go None r = i
 
     set-at-stays : (value : List ℕ) → length value + 1 ≡ z.w → Stays z (set_at z tb e s (job key value))
     unfolding updated
@@ -139,19 +136,19 @@ module _ {wk tr : List ℕ} {z : Sizes} (y : Entered wk tr z) (i : Indexed z wk 
   unfolding set_opened
   set-stays j c = go (lookup z tb (job_name j.key) e) refl
     where
-      go : (k : Lookup) → lookup z tb (job_name j.key) e ≡ k → Stays z (set_looked k z tb e j)
-      go Later q = i
-      go (Live s) q = set-live-stays j.key s q j.value (job-long j c)
-      go Absent q = i
+      go : (k : Result (Option ℕ) Refusal) → lookup z tb (job_name j.key) e ≡ k → Stays z (set_looked k z tb e j)
+      go (Err r) q = i
+      go (Ok (Some s)) q = set-live-stays j.key s q j.value (job-long j c)
+      go (Ok None) q = i
 
   delete-stays : (key : ℕ) → Stays z (delete_open z tb key e)
   unfolding delete_open
   delete-stays key = go (lookup z tb (job_name key) e) refl
     where
-      go : (k : Lookup) → lookup z tb (job_name key) e ≡ k → Stays z (delete_looked k z tb e key)
-      go Later q = i
-      go (Live s) q = delete-at-stays key s q
-      go Absent q = i
+      go : (k : Result (Option ℕ) Refusal) → lookup z tb (job_name key) e ≡ k → Stays z (delete_looked k z tb e key)
+      go (Err r) q = i
+      go (Ok (Some s)) q = delete-at-stays key s q
+      go (Ok None) q = i
 
 -- ---- a whole call
 pub record Right (z : Sizes) (st : Store) : Type 0 where

@@ -1,9 +1,7 @@
 -- The moments of a run are one after each single store into persistent: from each to the next at most one line changes there.
-use Rattle.std.specs.Prelude.{ℕ, zero, suc, ◌+◌, ◌*◌, ◌<◌, ◌≡◌, List, [], ◌∷◌, ◌++◌, get_or, set}
+use Rattle.std.specs.Prelude.{ℕ, zero, suc, ◌+◌, ◌*◌, ◌<◌, ◌≡◌, List, [], ◌∷◌, ◌++◌, get_or, set, Result, Ok, Err}
 use Rattle.std.proofs.Math.Path.{refl}
-use Rattle.reply.specs.declared.Check.{Check}
-use Rattle.reply.specs.declared.Check.TheVariants.{Accepted, Refused}
-use Rattle.reply.specs.Refusals.{by_check}
+use Rattle.reply.specs.Refusals.{Check, by_check}
 use Rattle.image.specs.Layout.{slots_of, free_header}
 use Rattle.image.specs.Line.{header_line, clock_line, store_line}
 use Rattle.image.specs.Requires.{held_header, held_contents}
@@ -26,7 +24,7 @@ use Rattle.queue_take.specs.Take.{take_entry}
 use Rattle.queue_take.specs.Stages.{take_open, take_sized}
 use Rattle.step.specs.declared.Place.{Place}
 use Rattle.step.specs.declared.Advance.{Advance}
-use Rattle.step.specs.declared.Advance.TheVariants.{WentOn, Ticked, Declined}
+use Rattle.step.specs.declared.Advance.TheVariants.{WentOn, Ticked}
 use Rattle.step.specs.Step.{Stepped, reclaimed, contents_flushed, header_flushed, ticking, step}
 use Rattle.step.specs.Ways.{every_way}
 use Rattle.advance.specs.Advance.{noted, advance}
@@ -35,6 +33,7 @@ use Rattle.advance.specs.Ways.{next_step, advance-way}
 use Rattle.sync.specs.Sync.{sync_check, by_reply}
 use Rattle.write_back.specs.Ways.{back-way}
 use Rattle.guarantee.specs.Trace.{Call, begins, ends, news, sets, deletes, batches, reads, appends, takes, looks, advances, syncs, writes_back, Plain, Moment, Trace, stay, one, followed, told, told_advance, after_advance, after_word, after_words, syncing, through, run}
+use Rattle.reply.specs.declared.Refusal.{Refusal}
 
 -- what a call stores: nothing, a slot's header or contents as working holds them, a word of it, a header of zeros, or the clock
 pub data OneStore (m x : Moment) : Type 0 where
@@ -113,10 +112,10 @@ unfolding after_words
 words-chained [] m = stays
 words-chained (i ∷ is) m = chained-then (one (after_word i m)) (after_words is) (one-step (word-one m i)) (words-chained is (after_word i m))
 
-going-chained : (r : Advance) (on tick : Moment → Trace) (m : Moment) → ((x : Moment) → Chained x (on x)) → ((x : Moment) → Chained x (tick x)) → Chained m (by_reply r on tick (λ _. stay) m)
-going-chained WentOn on tick m a b = a m
-going-chained Ticked on tick m a b = b m
-going-chained (Declined r) on tick m a b = stays
+going-chained : (r : Result Advance Refusal) (on tick : Moment → Trace) (m : Moment) → ((x : Moment) → Chained x (on x)) → ((x : Moment) → Chained x (tick x)) → Chained m (by_reply r on tick (λ _. stay) m)
+going-chained (Ok WentOn) on tick m a b = a m
+going-chained (Ok Ticked) on tick m a b = b m
+going-chained (Err r) on tick m a b = stays
 
 syncing-chained : (more ticks k : ℕ) (words : ℕ → List ℕ) (m : Moment) → Chained m (syncing more ticks k words m)
 unfolding syncing
@@ -147,8 +146,8 @@ through-chained advances m = one-step (advance-one m)
 through-chained (syncs words) m = go (sync_check m.store)
   where
     go : (k : Check) → Chained m (by_check k (λ _. stay m) (syncing (2 * most_lines (slots_of m.store.working)) 2 0 words m))
-    go (Refused r) = stays
-    go Accepted = syncing-chained (2 * most_lines (slots_of m.store.working)) 2 0 words m
+    go (Err r) = stays
+    go (Ok _) = syncing-chained (2 * most_lines (slots_of m.store.working)) 2 0 words m
 through-chained (writes_back position) m = one-step (word-one m position)
 
 -- ---- of every run

@@ -1,10 +1,7 @@
 -- A later version takes a free slot and the old one is retired: the two slots that change.
-use Rattle.std.specs.Prelude.{ℕ, ◌+◌, ◌≤◌, ◌<◌, ◌≡◌, refl, true, ◌≢◌, List, [], ◌∷◌, ◌++◌, length}
+use Rattle.std.specs.Prelude.{ℕ, ◌+◌, ◌≤◌, ◌<◌, ◌≡◌, refl, true, ◌≢◌, List, [], ◌∷◌, ◌++◌, length, Option, Some, None}
 use Rattle.std.proofs.Common.{sym, ◌∙◌, arith}
-use Rattle.std.proofs.Math.Option.{Option}
 use Rattle.search.specs.Bools.{flag}
-use Rattle.search.specs.declared.Found.{Found}
-use Rattle.search.specs.declared.Found.TheVariants.{At, Nothing}
 use Rattle.reply.specs.declared.Refusal.TheVariants.{Full}
 use Rattle.image.specs.declared.header.Header.{Header}
 use Rattle.image.specs.Layout.{is_filled, header_of, header}
@@ -151,6 +148,6 @@ module _ {sz : Sizes} {start : Jobs} {wk l tr : List ℕ} {p : Plain} {kind : �
       → Fine sz start l p thread name u (superseded (room sz (table wk tr) k) sz (table wk tr) e s (header_of kind e (header wk s).uid (header wk s).board) name.key v)
   super-fine k h = go (room sz (table wk tr) k) refl
     where
-      go : (f : Found) → room sz (table wk tr) k ≡ f → Fine sz start l p thread name u (superseded f sz (table wk tr) e s (header_of kind e (header wk s).uid (header wk s).board) name.key v)
-      go (At f) q = let b = room_says sz (table wk tr) k f h q in record { good = super-at f b.0 b.1 }
-      go Nothing q = fine-refused g Full
+      go : (f : Option ℕ) → room sz (table wk tr) k ≡ f → Fine sz start l p thread name u (superseded f sz (table wk tr) e s (header_of kind e (header wk s).uid (header wk s).board) name.key v)
+      go (Some f) q = let b = room_says sz (table wk tr) k f h q in record { good = super-at f b.0 b.1 }
+      go None q = fine-refused g Full

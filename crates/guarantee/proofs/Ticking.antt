@@ -1,5 +1,5 @@
 -- The last step of an advance: the clock goes on in both images, and the waiting list of c − 1 is emptied.
-use Rattle.std.specs.Prelude.{◌≤◌, ℕ, suc, ◌+◌, ◌-◌, ◌<◌, ◌≡◌, false, List}
+use Rattle.std.specs.Prelude.{◌≤◌, ℕ, suc, ◌+◌, ◌-◌, ◌<◌, ◌≡◌, false, List, Ok}
 use Rattle.std.proofs.Common.{sym, ap, ◌∙◌, arith}
 use Rattle.std.proofs.Math.Decide.{dec_lt}
 use Rattle.image.specs.Layout.{is_filled}
@@ -27,7 +27,7 @@ use Rattle.guarantee.proofs.Stepping.{flushed_to, progress-idle, Reached, Ready}
 
 -- what a step owes: its store is good beside what the reference map makes of its reply
 abbrev pub Owed : Sizes → Jobs → Plain → Stepped → Type 0
-Owed sz start p z = Good sz start (noted z).store (told_advance z.reply p)
+Owed sz start p z = Good sz start (noted z).store (told_advance (Ok z.reply) p)
 
 -- the image at the next clock
 clock-image : {sz : Sizes} {c : ℕ} {l : List ℕ} → Image sz c l → Image sz (suc c) (store_line l (clock_line (c + 1)))

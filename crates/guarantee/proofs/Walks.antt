@@ -4,16 +4,13 @@
 -- The calls that look a job up, as they are by a walk of the whole table. In every store whose index is right, also one that no run leaves,
 -- each of them answers and leaves what its call by the index does, the notes included; and the index is right at every moment of every
 -- run. Append, take and look walk the table, so there is nothing to say of them.
-use Rattle.std.specs.Prelude.{ℕ, zero, suc, ◌+◌, ◌/◌, ◌≡◌, refl, Bool, cond, length, leb}
+use Rattle.std.specs.Prelude.{ℕ, zero, suc, ◌+◌, ◌/◌, ◌≡◌, refl, Bool, cond, length, leb, Result, Err, Option, Ok}
 use Rattle.std.proofs.Common.{ap}
 use Rattle.std.proofs.Math.Path.{fun_ext}
 use mathlib.Core.List.{List, Memᴰ}
 use Rattle.std.proofs.Math.Dec.{eqb}
-use Rattle.search.specs.First.{where_found}
-use Rattle.reply.specs.declared.Check.{Check}
-use Rattle.reply.specs.declared.Check.TheVariants.{Refused}
 use Rattle.reply.specs.declared.Refusal.TheVariants.{NoThread, BadArgument, NoJob, JobExists}
-use Rattle.reply.specs.Refusals.{by_check}
+use Rattle.reply.specs.Refusals.{Check, by_check}
 use Rattle.image.specs.Name.{job_name}
 use Rattle.transient.specs.declared.sizes.Sizes.{Sizes}
 use Rattle.transient.specs.Layout.{open_epoch}
@@ -21,8 +18,6 @@ use Rattle.transient.specs.Store.{Store, Table, table_of, sizes_of, Outcome}
 use Rattle.transient.specs.Entry.{entry_check}
 use Rattle.transient.specs.Calls.{Changed, refused}
 use Rattle.index.specs.Indexed.{Indexed}
-use Rattle.table.specs.declared.find.Lookup.{Lookup}
-use Rattle.table.specs.declared.find.Lookup.TheVariants.{Live, Absent}
 use Rattle.table.specs.Walk.{walk_live, walk_lookup, live-walks, lookup-walks}
 use Rattle.jobs.specs.Job.{Job, bad_job}
 use Rattle.jobs.specs.Way.{on_found, on_job}
@@ -33,8 +28,6 @@ use Rattle.job_batch.specs.declared.Batch.{Batch}
 use Rattle.job_batch.specs.Batch.{change_at, kind_of, job_of, change_job, changes_from, batch_jobs}
 use Rattle.job_batch.specs.Stages.{by_kind, ended}
 use Rattle.job_batch.specs.By.{changes_by, batch_by}
-use Rattle.job_read.specs.declared.Reading.{Reading}
-use Rattle.job_read.specs.declared.Reading.TheVariants as reading
 use Rattle.job_read.specs.Read.{read_sized, read_job}
 use Rattle.job_read.specs.Stages.{read_looked}
 use Rattle.guarantee.specs.Trace.{Call, Moment, moments}
@@ -42,6 +35,7 @@ use Rattle.guarantee.specs.Promise.{Started}
 use Rattle.guarantee.proofs.Changing.{sizes-is}
 use Rattle.guarantee.proofs.StaysIndexed.{Right, change-right}
 use Rattle.guarantee.proofs.Running.{moments-good}
+use Rattle.reply.specs.declared.Refusal.{Refusal}
 
 -- ---- the calls by a walk
 -- as `on_job`, but for the look-up
@@ -60,20 +54,20 @@ delete_walk st thread key = on_walk st thread key (λ z. eqb key 0) (λ z tb e s
 -- as `change_job` and `batch_jobs`, of these
 abbrev pub change_walk : Store → ℕ → List ℕ → Outcome Check
 change_walk st thread c =
-    by_kind (kind_of c) (new_walk st thread (job_of c)) (set_walk st thread (job_of c)) (delete_walk st thread (job_of c).key) (record { reply = Refused BadArgument; store = st })
+    by_kind (kind_of c) (new_walk st thread (job_of c)) (set_walk st thread (job_of c)) (delete_walk st thread (job_of c).key) (record { reply = Err BadArgument; store = st })
 
 abbrev pub batch_walk : Store → ℕ → List ℕ → Outcome Batch
 batch_walk st thread list = batch_by (λ s c. change_walk s thread c) st thread list
 
 -- as `read_sized` and `read_job`
-abbrev pub read_walk : Store → ℕ → ℕ → Reading
+abbrev pub read_walk : Store → ℕ → ℕ → Result ℕ Refusal
 read_walk st thread key =
     let z = sizes_of (table_of st) in
     let e = open_epoch st.transient thread in
-    by_check (entry_check st) reading.Declined
-    (cond (leb z.t thread) (reading.Declined NoThread)
-    (cond (eqb key 0) (reading.Declined BadArgument)
-    (read_looked (cond (eqb e 0) (where_found (walk_live z (table_of st) (job_name key)) Live Absent) (walk_lookup z (table_of st) (job_name key) e)))))
+    by_check (entry_check st) Err
+    (cond (leb z.t thread) (Err NoThread)
+    (cond (eqb key 0) (Err BadArgument)
+    (read_looked (cond (eqb e 0) (Ok (walk_live z (table_of st) (job_name key))) (walk_lookup z (table_of st) (job_name key) e)))))
 
 -- ---- with a right index
 -- each reply, each image and all the notes are what the walk gives
@@ -90,7 +84,7 @@ module _ {z : Sizes} (st : Store) (x : Right z st) (thread : ℕ) where
 
   found-walks : (key : ℕ) (bad : Sizes → Bool) (live : Sizes → Table → ℕ → ℕ → Changed) (absent : Sizes → Table → ℕ → Changed)
       → on_job st thread key bad live absent ≡ on_walk st thread key bad live absent
-  found-walks key bad live absent = ap (λ (look : ℕ → Lookup). on_found st thread bad (λ z tb e. look e) live absent) (fun_ext (λ e. lookup-walks right-index (job_name key) e))
+  found-walks key bad live absent = ap (λ (look : ℕ → Result (Option ℕ) Refusal). on_found st thread bad (λ z tb e. look e) live absent) (fun_ext (λ e. lookup-walks right-index (job_name key) e))
 
   new_walks : (j : Job) → new_job st thread j ≡ new_walk st thread j
   unfolding new_job
@@ -119,7 +113,7 @@ changes-walk thread list k zero st x = refl
 changes-walk {z} thread list k (suc more) st x =
     let c = change_at z list k in
     let o = change_job st thread c in
-    rw (← change-walks st x thread c) (ap (by_check o.reply (λ r. ended k (Refused r) o.store)) (changes-walk thread list (suc k) more o.store (change-right x thread c)))
+    rw (← change-walks st x thread c) (ap (by_check o.reply (λ r. ended k (Err r) o.store)) (changes-walk thread list (suc k) more o.store (change-right x thread c)))
 
 -- in every store
 pub index-walks : (st : Store) → Indexed (sizes_of (table_of st)) st.working st.transient → Walks st

@@ -1,9 +1,7 @@
 -- What demand 3 promises of a cut: where a run may start, what the jobs of an image are, and what recovery gives.
-use Rattle.std.specs.Prelude.{ℕ, ◌+◌, ◌-◌, ◌≤◌, ◌<◌, ◌≡◌, true, ◌≢◌}
+use Rattle.std.specs.Prelude.{ℕ, ◌+◌, ◌-◌, ◌≤◌, ◌<◌, ◌≡◌, true, ◌≢◌, Ok, None, Some}
 use mathlib.Core.List.{List, Memᴰ}
-use Rattle.std.proofs.Math.Option.{none, some}
 use Rattle.search.specs.First.{first_of, where_found}
-use Rattle.reply.specs.declared.Check.TheVariants.{Accepted}
 use Rattle.image.specs.Layout.{slots_of, width_of, clock_of, value_at}
 use Rattle.image.specs.declared.name.Name.{Name}
 use Rattle.image.specs.Name.{name_at}
@@ -19,7 +17,7 @@ use Rattle.guarantee.specs.Trace.{Plain}
 
 -- ---- the jobs of an image, and the entries of its queue: its survivors, by name
 unfoldable pub jobs_of : List ℕ → Jobs
-jobs_of l k = where_found (first_of (survives_as l (slots_of l) (width_of l) k) (slots_of l)) (λ s. some (value_at l (slots_of l) (width_of l) s)) none
+jobs_of l k = where_found (first_of (survives_as l (slots_of l) (width_of l) k) (slots_of l)) (λ s. Some (value_at l (slots_of l) (width_of l) s)) None
 
 -- "just these: the same keys, each once, the same value words"
 pub record Holds (l : List ℕ) (jobs : Jobs) : Type 0 where
@@ -29,8 +27,8 @@ pub record Holds (l : List ℕ) (jobs : Jobs) : Type 0 where
 
 -- ---- "what fresh left, or the recover that replied done"
 pub data Started : Store → Type 0 where
-  fresh : (st : Store) (slots words : ℕ) → (format st slots words).reply ≡ Accepted → Started (format st slots words).store
-  recovered : (st : Store) → (recover st).reply ≡ Done → Started (recover st).store
+  fresh : (st : Store) (slots words : ℕ) → (format st slots words).reply ≡ Ok tt → Started (format st slots words).store
+  recovered : (st : Store) → (recover st).reply ≡ Ok Done → Started (recover st).store
 
 -- ---- a cut that leaves the image l, of a run that began with these jobs, with the plain board p beside it
 pub record Promise (start : Jobs) (l : List ℕ) (p : Plain) : Type 0 where
@@ -42,9 +40,9 @@ pub record Promise (start : Jobs) (l : List ℕ) (p : Plain) : Type 0 where
   pub completes : {k : ℕ} {a : List ℕ} → Reached l k a → Completes (slots_of l - k) a
   -- "An operation is present if its epoch is at most c − 2": the starting jobs changed by the row's entries of present operations
   -- "Both images' survivors at done are just these"
-  pub persistent : {k : ℕ} {a : List ℕ} → Reached l k a → (any : AnyWords a) → (call a any).reply ≡ Done
+  pub persistent : {k : ℕ} {a : List ℕ} → Reached l k a → (any : AnyWords a) → (call a any).reply ≡ Ok Done
       → Holds (call a any).store.persistent (jobs_at (p.clock - 2) start p.row)
-  pub working : {k : ℕ} {a : List ℕ} → Reached l k a → (any : AnyWords a) → (call a any).reply ≡ Done
+  pub working : {k : ℕ} {a : List ℕ} → Reached l k a → (any : AnyWords a) → (call a any).reply ≡ Ok Done
       → Holds (call a any).store.working (jobs_at (p.clock - 2) start p.row)
   -- 02, No. 3, first in, first out: each take of a present operation took away the smallest entry of the queue of present
   -- operations at its turn

@@ -1,10 +1,7 @@
 -- A run of calls on one store, and beside it the reference map (01: "the plain board"), fed the calls' arguments and replies.
-use Rattle.std.specs.Prelude.{ℕ, zero, suc, ◌+◌, ◌*◌, cond, List, [], ◌∷◌, ◌++◌, eqb}
-use Rattle.std.proofs.Math.Option.{Option, none, some}
+use Rattle.std.specs.Prelude.{ℕ, zero, suc, ◌+◌, ◌*◌, cond, List, [], ◌∷◌, ◌++◌, eqb, Option, Result, Ok, Err, None, Some}
 use Rattle.search.specs.First.{where_found}
-use Rattle.reply.specs.declared.Check.{Check}
-use Rattle.reply.specs.declared.Check.TheVariants.{Accepted}
-use Rattle.reply.specs.Refusals.{by_check}
+use Rattle.reply.specs.Refusals.{Check, by_check}
 use Rattle.image.specs.Layout.{key_at, slots_of, clock_of}
 use Rattle.image.specs.declared.name.Name.{Name}
 use Rattle.image.specs.Name.{job_name, entry_name}
@@ -17,8 +14,6 @@ use Rattle.job_set.specs.Set.{set_job}
 use Rattle.job_delete.specs.Delete.{delete_job}
 use Rattle.job_batch.specs.Batch.{change_at, kind_of, job_of, batch_jobs}
 use Rattle.queue.specs.Front.{front_slot}
-use Rattle.queue_append.specs.declared.Append.{Append}
-use Rattle.queue_append.specs.declared.Append.TheVariants.{Given, Declined}
 use Rattle.queue_append.specs.Append.{append_entry}
 use Rattle.queue_take.specs.Take.{take_entry}
 use Rattle.step.specs.declared.Advance.{Advance}
@@ -26,6 +21,7 @@ use Rattle.advance.specs.Advance.{advance}
 use Rattle.sync.specs.Sync.{sync_check, by_reply}
 use Rattle.write_back.specs.WriteBack.{write_back}
 use Rattle.crash.specs.Reference.{Change}
+use Rattle.reply.specs.declared.Refusal.{Refusal}
 
 -- a call with its arguments; a sync also with the words that the memory writes back before each of its advance calls, the first
 -- being number 0: each word by its position
@@ -76,19 +72,19 @@ unfoldable pub told_changes : Sizes → ℕ → List ℕ → ℕ → Plain → P
 told_changes z thread list zero p = p
 told_changes z thread list (suc k) p =
     let c = change_at z list k in
-    told_change thread (job_name (job_of c).key) (cond (eqb (kind_of c) 3) none (some (job_of c).value)) Accepted (told_changes z thread list k p)
+    told_change thread (job_name (job_of c).key) (cond (eqb (kind_of c) 3) None (Some (job_of c).value)) (Ok tt) (told_changes z thread list k p)
 
 -- 02, No. 3: "each entry under the order number that its append was given": an accepted append adds the entry of its reply
-abbrev pub told_append : ℕ → List ℕ → Append → Plain → Plain
-told_append thread value (Given order) p = told_change thread (entry_name order) (some value) Accepted p
-told_append thread value (Declined r) p = p
+abbrev pub told_append : ℕ → List ℕ → Result ℕ Refusal → Plain → Plain
+told_append thread value (Ok order) p = told_change thread (entry_name order) (Some value) (Ok tt) p
+told_append thread value (Err r) p = p
 
 -- .. and an accepted take takes away the entry that stood at the front; that its number is the smallest is a claim (`Promise.fifo`)
 abbrev pub front_order : Store → ℕ
 front_order st = let z = sizes_of (table_of st) in where_found (front_slot z (table_of st)) (key_at st.working z.n z.w) 0
 
 -- "Ticked, from an advance call or one within a sync, adds 1 to the clock. All else, any refused call too, changes nothing."
-abbrev pub told_advance : Advance → Plain → Plain
+abbrev pub told_advance : Result Advance Refusal → Plain → Plain
 told_advance r p = by_reply r (λ q. q) (λ q. plain (suc q.clock) q.operation q.row q.ended q.durable) (λ _ q. q) p
 
 -- ---- moments: a store, and the reference map beside it
@@ -140,14 +136,14 @@ syncing (suc more) (suc ticks) k words m =
 unfoldable pub through : Call → Moment → Trace
 through (begins thread) m = one (told (begin m.store thread) (told_begin thread) m)
 through (ends thread) m = one (told (end m.store thread) (told_end thread) m)
-through (news thread j) m = one (told (new_job m.store thread j) (told_change thread (job_name j.key) (some j.value)) m)
-through (sets thread j) m = one (told (set_job m.store thread j) (told_change thread (job_name j.key) (some j.value)) m)
-through (deletes thread key) m = one (told (delete_job m.store thread key) (told_change thread (job_name key) none) m)
+through (news thread j) m = one (told (new_job m.store thread j) (told_change thread (job_name j.key) (Some j.value)) m)
+through (sets thread j) m = one (told (set_job m.store thread j) (told_change thread (job_name j.key) (Some j.value)) m)
+through (deletes thread key) m = one (told (delete_job m.store thread key) (told_change thread (job_name key) None) m)
 through (batches thread list) m =
     one (told (batch_jobs m.store thread list) (λ b. told_changes (sizes_of (table_of m.store)) thread list b.accepted) m)
 through (reads thread key) m = one m
 through (appends thread value) m = one (told (append_entry m.store thread value) (told_append thread value) m)
-through (takes thread) m = one (told (take_entry m.store thread) (told_change thread (entry_name (front_order m.store)) none) m)
+through (takes thread) m = one (told (take_entry m.store thread) (told_change thread (entry_name (front_order m.store)) None) m)
 through (looks thread) m = one m
 through advances m = one (after_advance m)
 through (syncs words) m = by_check (sync_check m.store) (λ _. stay m) (syncing (2 * (3 * slots_of m.store.working + 1)) 2 0 words m)

@@ -11,15 +11,14 @@ use Rattle.image.specs.Layout.{most_number, queue_board, header_words, header_at
 use Rattle.image.specs.Line.{header_line, contents_line, clock_line, stored, store_line}
 use Rattle.image.specs.Name.{name_of, name_at, misnamed}
 use Rattle.image.specs.Requires.{kind_at, epoch_at, uid_at, board_at, held_header, HeaderFits, InRange, Slot, SlotOf, Slots, slot, header-fits, slot_of}
-use Rattle.image.specs.Bytes.{words_of, Byte, InWords, Decodes, words-length, words-at}
-use Rattle.image.specs.InPlace.{place-word, place-kind, place-key, place-slot, place-header, place-name, head-word}
-use Rattle.image.specs.Laws.{area-top, sizes-true, shaped, length-contents, part-is, part-line, header-part}
+use Rattle.image.specs.Bytes.{words_of, Decodes, words-length}
+use Rattle.image.specs.Laws.{area-top, sizes-true, shaped, length-contents, part-is, part-stored, part-line, header-part}
 use Rattle.image.specs.Storing.{storings}
 
 -- ---- headers
-pub header_is : (l : List ℕ) (s : ℕ) → header_of (kind_at l s) (epoch_at l s) (uid_at l s) (board_at l s) ≡ header l s
+pub header_read : (l : List ℕ) (s : ℕ) {a b c d : ℕ} → a ≡ kind_at l s → b ≡ epoch_at l s → c ≡ uid_at l s → d ≡ board_at l s → header_of a b c d ≡ header l s
 unfolding header
-header_is l s = refl
+header_read l s p q r t = rw (p, q, r, t)
 
 pub header-stored : (l : List ℕ) (s : ℕ) (h : Header)
     → set (set (set (set l (header_at s) h.kind) (header_at s + 1) h.epoch) (header_at s + 2) h.uid) (header_at s + 3) h.board ≡ store_line l (header_line s h)
@@ -114,6 +113,10 @@ contents-copied {a} {d} {n} {w} {s} {b} z at e =
     let end : contents_at n w s + w ≤ length d = omega (arith, z.second.room, z.second.sized.long) in
     rw (e ∙ part-is a n w s at, e', at) (part-line d (contents_line n w s (contents a n w s)) w (length-contents z.first) end)
 
+pub part-copied : (l src : List ℕ) (b k : ℕ) {y : List ℕ} → b + k ≤ length l → k ≤ length src → y ≡ take k src
+    → take b l ++ (y ++ drop (b + k - b) (drop b l)) ≡ stored l b src k
+part-copied l src b k h f e = let e' : b + k - b ≡ k = omega arith in rw (e, e') (part-stored l b src k h f)
+
 pub part-cleared : (l : List ℕ) (b k : ℕ) {y : List ℕ} → b + k ≤ length l → y ≡ replicate (length (take (b + k - b) (drop b l))) 0
     → take b l ++ (y ++ drop (b + k - b) (drop b l)) ≡ stored l b (replicate k 0) k
 unfolding store_line
@@ -170,24 +173,7 @@ module _ (l : List ℕ) {n w : ℕ} {r : Bool} (slots : n ≡ slots_of l) (width
   shape-long t e = rw (← slots, ← width, ← ok, t, ← e)
 
 -- ---- bytes
-pub word_made : (bytes : List ℕ) (k i : ℕ) {a b c d : ℕ} → InWords bytes k i → Byte (get_or bytes (4 * i) 0) a → Byte (get_or bytes (4 * i + 1) 0) b
-    → Byte (get_or bytes (4 * i + 2) 0) c → Byte (get_or bytes (4 * i + 3) 0) d → a + 256 * b + 65536 * c + 16777216 * d ≡ get_or (words_of bytes) i 0
-word_made bytes k i z a b c d = rw (a.same, b.same, c.same, d.same) (words-at k bytes i z.whole z.below)
+pub in_words : {bytes words : List ℕ} {k i : ℕ} → Decodes bytes words k → i < k → i < length (words_of bytes)
+in_words {bytes} {words} {k} z h = rw (words-length k bytes z.whole) h
 
-pub in_words : {bytes words : List ℕ} {k i : ℕ} → Decodes bytes words k → i < k → InWords bytes k i
-in_words z h = record { whole = z.whole; below = h }
-
--- ---- the shape of bytes
-pub place_short : (bytes : List ℕ) (k : ℕ) → length bytes ≡ 4 * k → k < 3 → false ≡ shape_ok (words_of bytes)
-place_short bytes k whole h = shape-short (words_of bytes) (rw (words-length k bytes whole) h)
-
-module _ (bytes : List ℕ) {a b n w : ℕ} {r : Bool} (p : a ≡ get_or (words_of bytes) 0 0) (q : n ≡ a) (u : b ≡ get_or (words_of bytes) 1 0) (v : w ≡ b) (ok : r ≡ sizes_ok n w) where
-  pub place-sizes : r ≡ false → false ≡ shape_ok (words_of bytes)
-  place-sizes f = shape-sizes (words_of bytes) (q ∙ p) (v ∙ u) ok f
-
-  pub place-fits : (k : ℕ) {j : ℕ} → length bytes ≡ 4 * k → r ≡ true → j ≡ image_words n w → eqb k j ≡ shape_ok (words_of bytes)
-  place-fits k whole t e = rw (← words-length k bytes whole) (shape-long (words_of bytes) (q ∙ p) (v ∙ u) ok t e)
-
-pub ruleset places = (place-word, place-kind, place-key, place-slot, place-header, place-name, head-word, place_short, place-sizes, place-fits)
-
-pub ruleset laws = (tests, storings, slot, header-fits, slot_of, header_is, header-stored, header-copied, contents-fits, contents-top, key_in, key-is, contents-copied, part-cleared, name-made, bad-zero, bad-entry, bad-none, clock-stored, area-fits, whole-fits, sizes-true, shape-short, shape-sizes, shape-long, in_words, word_made)
+pub ruleset laws = (tests, storings, slot, header-fits, slot_of, header_read, header-stored, header-copied, contents-fits, contents-top, key_in, key-is, contents-copied, part-copied, part-cleared, name-made, bad-zero, bad-entry, bad-none, clock-stored, area-fits, whole-fits, sizes-true, shape-short, shape-sizes, shape-long, in_words)

@@ -7,7 +7,7 @@ pub mod Alike
 pub mod Whole
 pub mod Torn
 pub mod Bytes
-pub mod InPlace
+pub mod Words
 pub mod Storing
 pub mod Moving
 pub mod Exits

@@ -1,4 +1,6 @@
 // A slot's contents: a key, then the words of its value.
+#![tactic(auto, using(crate::specs::Exits::laws))]
+
 ghost use Rattle.std.specs.Prelude.{◌≡◌, ◌+◌, ◌≤◌, length, replicate};
 ghost use Rattle.image.specs.Layout.{contents_at, key_at, contents};
 ghost use Rattle.image.specs.Line.{stored, store_line, contents_line};
@@ -18,7 +20,7 @@ pub fn key_at(img: &[u32], n: usize, w: usize, s: usize) -> u32
     requires { Slot img.now n w s }
     ensures { result ≡ key_at img.now n w s }
 {
-    img[contents_at(n, w, s)]
+    crate::words::key(img, n, w, s)
 }
 
 // The first `k` words of `src`, stored in `dst` from `b` on.
@@ -26,11 +28,7 @@ pub fn store_words(dst: &mut [u32], b: usize, src: &[u32], k: usize)
     requires { (b + k ≤ length dst.old) × (k ≤ length src.now) }
     ensures { dst.new ≡ stored dst.old b src.now k }
 {
-    let mut j = 0;
-    while j < k {
-        dst[b + j] = src[j];
-        j += 1;
-    }
+    dst[b..b + k].copy_from_slice(&src[..k]);
 }
 
 // A slot's contents, from one image to the other: a part of the source goes into that part of the target.
@@ -47,11 +45,7 @@ pub fn copy_contents(src: &[u32], dst: &mut [u32], n: usize, w: usize, s: usize)
 pub fn clear(l: &mut [u32])
     ensures { l.new ≡ replicate (length l.old) 0 }
 {
-    let mut j = 0;
-    while j < l.len() {
-        l[j] = 0;
-        j += 1;
-    }
+    l.fill(0);
 }
 
 // The `k` words from b on become 0.

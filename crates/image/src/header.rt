@@ -1,10 +1,12 @@
 // A header (01: a mark): its kinds, its constructors, its readers and its writer.
+#![tactic(auto, using(crate::specs::Exits::headers))]
+
 ghost use Rattle.std.specs.Prelude.{◌≡◌};
 ghost use Rattle.image.specs.Layout.{header, free_header, fresh_header, updated_header, anti_header, is_blank, has_zero, is_filled, is_payload};
 ghost use Rattle.image.specs.Line.{header_line, store_line};
 ghost use Rattle.image.specs.Requires.{HeaderFits, board_at, held_header};
 
-#[derive(Clone, Copy)]
+#[derive(Clone, Copy, Debug, PartialEq, Eq)]
 pub struct Header {
     pub kind: u32,
     // 01: the label
@@ -78,28 +80,64 @@ impl Header {
             board: old.board,
         }
     }
+
+    // Four zeros?
+    pub fn is_blank(self) -> bool
+        ensures { result ≡ is_blank self }
+    {
+        self == Header::free()
+    }
+
+    // Is any word 0? Such a header counts as free: a store of it, or of zeros over it, was cut or is not whole yet.
+    pub fn has_zero(self) -> bool
+        ensures { result ≡ has_zero self }
+    {
+        if self.kind == Header::FREE {
+            return true;
+        }
+        if self.epoch == 0 {
+            return true;
+        }
+        if self.uid == 0 {
+            return true;
+        }
+        self.board == 0
+    }
+
+    pub fn is_filled(self) -> bool
+        ensures { result ≡ is_filled self }
+    {
+        if self.has_zero() {
+            return false;
+        }
+        self.kind <= Header::DELETE
+    }
+
+    pub fn is_payload(self) -> bool
+        ensures { result ≡ is_payload self }
+    {
+        if self.has_zero() {
+            return false;
+        }
+        self.kind <= Header::UPDATE
+    }
 }
 
 pub fn board_at(img: &[u32], n: usize, s: usize) -> u32
     requires { HeaderFits img.now n s }
     ensures { result ≡ board_at img.now s }
 {
-    img[3 + Header::WORDS * s + 3]
+    crate::words::board(img, n, s)
 }
 
 pub fn header_at(img: &[u32], n: usize, s: usize) -> Header
     requires { HeaderFits img.now n s }
     ensures { result ≡ header img.now s }
 {
-    let b = 3 + Header::WORDS * s;
-    Header {
-        kind: img[b],
-        epoch: img[b + 1],
-        uid: img[b + 2],
-        board: img[b + 3],
-    }
+    crate::words::header(img, n, s)
 }
 
+#[tactic(auto, using(crate::specs::Exits::laws))]
 pub fn set_header(img: &mut [u32], n: usize, s: usize, h: Header)
     requires { HeaderFits img.old n s }
     ensures { img.new ≡ store_line img.old (header_line s h) }
@@ -112,6 +150,7 @@ pub fn set_header(img: &mut [u32], n: usize, s: usize, h: Header)
 }
 
 // A slot's header, from one image to the other: a part of the source goes into that part of the target.
+#[tactic(auto, using(crate::specs::Exits::laws))]
 pub fn copy_header(src: &[u32], dst: &mut [u32], n: usize, s: usize)
     requires { HeaderFits src.now n s × HeaderFits dst.old n s }
     ensures { dst.new ≡ store_line dst.old (held_header src.now s) }
@@ -119,54 +158,4 @@ pub fn copy_header(src: &[u32], dst: &mut [u32], n: usize, s: usize)
     let b = 3 + Header::WORDS * s;
     let e = b + Header::WORDS;
     crate::line::move_line(&src[b..e], &mut dst[b..e]);
-}
-
-// Four zeros?
-pub fn blank(h: Header) -> bool
-    ensures { result ≡ is_blank h }
-{
-    if h.kind != Header::FREE {
-        return false;
-    }
-    if h.epoch != 0 {
-        return false;
-    }
-    if h.uid != 0 {
-        return false;
-    }
-    h.board == 0
-}
-
-// Is any word 0? Such a header counts as free: a store of it, or of zeros over it, was cut or is not whole yet.
-pub fn has_zero(h: Header) -> bool
-    ensures { result ≡ has_zero h }
-{
-    if h.kind == Header::FREE {
-        return true;
-    }
-    if h.epoch == 0 {
-        return true;
-    }
-    if h.uid == 0 {
-        return true;
-    }
-    h.board == 0
-}
-
-pub fn filled(h: Header) -> bool
-    ensures { result ≡ is_filled h }
-{
-    if has_zero(h) {
-        return false;
-    }
-    h.kind <= Header::DELETE
-}
-
-pub fn payload(h: Header) -> bool
-    ensures { result ≡ is_payload h }
-{
-    if has_zero(h) {
-        return false;
-    }
-    h.kind <= Header::UPDATE
 }

@@ -8,3 +8,4 @@ pub mod header;
 pub mod line;
 pub mod name;
 pub mod shape;
+pub mod words;

@@ -1,4 +1,6 @@
 // The words of a line, which go from one image into the other with nothing in between.
+#![tactic(auto, using(crate::specs::Moving::movings))]
+
 ghost use Rattle.std.specs.Prelude.{◌≡◌, ◌+◌, ◌<◌, ◌≤◌, length};
 ghost use Rattle.image.specs.Moving.{four_moved, FoursMoved};
 

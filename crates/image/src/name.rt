@@ -6,7 +6,7 @@ ghost use Rattle.image.specs.Requires.{Slot};
 use crate::header::Header;
 
 // The name of a job or of a queue's entry: a board, and a key on it.
-#[derive(Clone, Copy)]
+#[derive(Clone, Copy, Debug, PartialEq, Eq)]
 pub struct Name {
     pub board: u32,
     pub key: u32,
@@ -31,19 +31,13 @@ impl Name {
             key: order,
         }
     }
-}
 
-// A key that no survivor may have.
-pub fn bad_name(name: Name) -> bool
-    ensures { result ≡ misnamed name }
-{
-    if name.key == 0 {
-        return true;
-    }
-    if name.board == Header::QUEUE {
-        crate::shape::MOST_NUMBER < name.key
-    } else {
-        false
+    // A key that no survivor may have.
+    #[tactic(auto, using(crate::specs::Exits::laws))]
+    pub fn is_bad(self) -> bool
+        ensures { result ≡ misnamed self }
+    {
+        self.key == 0 || (self.board == Header::QUEUE && crate::shape::MOST_NUMBER < self.key)
     }
 }
 
@@ -52,8 +46,5 @@ pub fn name_at(img: &[u32], n: usize, w: usize, s: usize) -> Name
     requires { Slot img.now n w s }
     ensures { result ≡ name_at img.now n w s }
 {
-    Name {
-        board: crate::header::board_at(img, n, s),
-        key: crate::contents::key_at(img, n, w, s),
-    }
+    crate::words::name(img, n, w, s)
 }

@@ -12,21 +12,6 @@ pub const MOST_SLOTS: usize = 1024;
 // The largest clock, uid and order number.
 pub const MOST_NUMBER: u32 = 4000000000;
 
-// A word as a size.
-pub fn wide(x: u32) -> usize
-    ensures { result ≡ x }
-{
-    x as usize
-}
-
-// A size as a word.
-pub fn narrow(x: usize) -> u32
-    requires { x < 2 ^ 32 }
-    ensures { result ≡ x }
-{
-    x as u32
-}
-
 // Are N and W in range?
 pub fn sizes_ok(n: usize, w: usize) -> bool
     ensures { result ≡ sizes_ok n w }
@@ -44,6 +29,7 @@ pub fn sizes_ok(n: usize, w: usize) -> bool
 }
 
 // How many words an image of these sizes has.
+#[tactic(auto, using(crate::specs::Exits::laws))]
 pub fn image_words(n: usize, w: usize) -> usize
     requires { InRange n w }
     ensures { result ≡ image_words n w }
@@ -54,16 +40,7 @@ pub fn image_words(n: usize, w: usize) -> usize
 pub fn shape_ok(img: &[u32]) -> bool
     ensures { result ≡ shape_ok img.now }
 {
-    if img.len() < 3 {
-        return false;
-    }
-    let n = wide(img[0]);
-    let w = wide(img[1]);
-    if sizes_ok(n, w) {
-        img.len() == image_words(n, w)
-    } else {
-        false
-    }
+    crate::words::shape_ok(img)
 }
 
 pub fn clock(img: &[u32]) -> u32
@@ -73,6 +50,7 @@ pub fn clock(img: &[u32]) -> u32
     img[2]
 }
 
+#[tactic(auto, using(crate::specs::Exits::laws))]
 pub fn set_clock(img: &mut [u32], c: u32)
     requires { 3 ≤ length img.old }
     ensures { img.new ≡ store_line img.old (clock_line c) }

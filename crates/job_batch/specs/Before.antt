@@ -1,12 +1,10 @@
 -- 02, No. 8, in a list: a batch that did not end by 13 has the same reply and effect as before the request.
 use Prim.Native.Nat.{ℕ, zero, suc, ◌+◌, ◌/◌}
-use Rattle.std.specs.Prelude.{◌≡◌, Bool, true, false, cond, ◌≢◌, List, length, eqb}
+use Rattle.std.specs.Prelude.{◌≡◌, Bool, true, false, cond, ◌≢◌, List, length, eqb, Ok, Err}
 use Rattle.std.proofs.Math.Path.{refl}
 use Rattle.std.proofs.Common.{arith}
-use Rattle.reply.specs.declared.Check.{Check}
-use Rattle.reply.specs.declared.Check.TheVariants.{Accepted, Refused}
 use Rattle.reply.specs.declared.Refusal.TheVariants.{BadArgument}
-use Rattle.reply.specs.Refusals.{by_check}
+use Rattle.reply.specs.Refusals.{Check, by_check}
 use Rattle.transient.specs.declared.sizes.Sizes.{Sizes}
 use Rattle.transient.specs.Store.{Store, table_of, sizes_of, Outcome, after_check}
 use Rattle.transient.specs.Entry.{entry_check}
@@ -24,7 +22,7 @@ use Rattle.job_batch.specs.By.{changes_by, batch_by}
 -- `change_job`, `changes_from` and `batch_jobs` as they were
 abbrev pub change_before : Store → ℕ → List ℕ → Outcome Check
 change_before st thread c =
-    by_kind (kind_of c) (new_job st thread (job_of c)) (set_before st thread (job_of c)) (delete_job st thread (job_of c).key) (record { reply = Refused BadArgument; store = st })
+    by_kind (kind_of c) (new_job st thread (job_of c)) (set_before st thread (job_of c)) (delete_job st thread (job_of c).key) (record { reply = Err BadArgument; store = st })
 
 abbrev pub batch_before : Store → ℕ → List ℕ → Outcome Batch
 batch_before st thread list = batch_by (λ s c. change_before s thread c) st thread list
@@ -56,12 +54,12 @@ module _ (z : Sizes) (thread : ℕ) (list : List ℕ) where
       o = change_before st thread (change_at z list k)
 
       from : Check → Outcome Batch → Outcome Batch
-      from r next = by_check r (λ q. ended k (Refused q) o.store) next
+      from r next = by_check r (λ q. ended k (Err q) o.store) next
 
       go : (r : Check) → o.reply ≡ r → check_number (from r (before (suc k) more o.store)).reply.ended ≢ 13
           → changes_from z thread list k (suc more) st ≡ from r (before (suc k) more o.store)
-      go (Refused q) e d = rw (change-kept st thread (change_at z list k) (rw e d), e)
-      go Accepted e d = rw (change-kept st thread (change_at z list k) (rw e (λ q. omega arith)), e) (rest d)
+      go (Err q) e d = rw (change-kept st thread (change_at z list k) (rw e d), e)
+      go (Ok _) e d = rw (change-kept st thread (change_at z list k) (rw e (λ q. omega arith)), e) (rest d)
 
   changes-kept : (k more : ℕ) (st : Store) → check_number (before k more st).reply.ended ≢ 13 → changes_from z thread list k more st ≡ before k more st
   unfolding changes_from changes_by
@@ -71,7 +69,7 @@ module _ (z : Sizes) (thread : ℕ) (list : List ℕ) where
 pub batch-kept : (st : Store) (thread : ℕ) (list : List ℕ) → check_number (batch_before st thread list).reply.ended ≢ 13
     → batch_jobs st thread list ≡ batch_before st thread list
 unfolding batch_jobs
-batch-kept st thread list = go (by_check (entry_check st) Refused (way_check (way_in z st.transient thread (bad_list z list))))
+batch-kept st thread list = go (by_check (entry_check st) Err (way_check (way_in z st.transient thread (bad_list z list))))
   where
     z : Sizes
     z = sizes_of (table_of st)
@@ -80,9 +78,9 @@ batch-kept st thread list = go (by_check (entry_check st) Refused (way_check (wa
     all = length list / (z.w + 1)
 
     refusing : Check → Outcome Batch → Outcome Batch
-    refusing k next = after_check k (λ r. record { accepted = 0; ended = Refused r }) st next
+    refusing k next = after_check k (λ r. record { accepted = 0; ended = Err r }) st next
 
     go : (k : Check) → check_number (refusing k (before z thread list 0 all st)).reply.ended ≢ 13
         → refusing k (changes_from z thread list 0 all st) ≡ refusing k (before z thread list 0 all st)
-    go (Refused r) h = refl
-    go Accepted h = changes-kept z thread list 0 all st h
+    go (Err r) h = refl
+    go (Ok _) h = changes-kept z thread list 0 all st h

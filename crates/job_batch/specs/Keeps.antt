@@ -1,7 +1,6 @@
 -- 02, No. 5: "The call as a whole counts as declining only when it refuses with none accepted": then nothing is changed.
-use Rattle.std.specs.Prelude.{ℕ, zero, suc, ◌≤◌, ◌≡◌, refl, List}
+use Rattle.std.specs.Prelude.{ℕ, zero, suc, ◌≤◌, ◌≡◌, refl, List, Err}
 use Rattle.std.proofs.Common.{arith}
-use Rattle.reply.specs.declared.Check.TheVariants.{Refused}
 use Rattle.reply.specs.declared.Refusal.{Refusal}
 use Rattle.transient.specs.declared.sizes.Sizes.{Sizes}
 use Rattle.transient.specs.Store.{Store, table_of, sizes_of, Outcome}
@@ -23,7 +22,7 @@ change-keeps st thread c =
 -- of what a batch leaves: k were accepted before
 pub record BatchKeeps (k : ℕ) (st : Store) (a : Outcome Batch) : Type 0 where
   pub accepted-lo : k ≤ a.reply.accepted
-  pub when-refused : (r : Refusal) → a.reply.accepted ≡ k → a.reply.ended ≡ Refused r → a.store ≡ st
+  pub when-refused : (r : Refusal) → a.reply.accepted ≡ k → a.reply.ended ≡ Err r → a.store ≡ st
 
 changes-keep : (z : Sizes) (thread : ℕ) (list : List ℕ) (k more : ℕ) (st : Store) → BatchKeeps k st (changes_from z thread list k more st)
 unfolding changes_from

@@ -1,16 +1,14 @@
 -- A batch judges refusals 1, 2, 5 and 7 once, and each of its changes equals its own call, which judges them every time: an accepted change
 -- keeps a store that passed them.
 use Prim.Native.Nat.{ℕ, zero, suc, ◌+◌, ◌-◌, ◌/◌, ◌<◌}
-use Rattle.std.specs.Prelude.{◌≡◌, Bool, true, false, cond, ◌||◌, ◌≢◌, List, drop}
+use Rattle.std.specs.Prelude.{◌≡◌, Bool, true, false, cond, ◌||◌, ◌≢◌, List, drop, Result, Ok, Err}
 use Rattle.std.proofs.Math.Path.{refl}
 use Rattle.std.proofs.Common.{◌∙◌, arith}
 use Rattle.std.proofs.Math.ListN.{length, length-drop}
 use Rattle.std.proofs.Math.Dec.{eqb}
 use borrow.Author.Tests.{lt-leb, eq-eqb, ne_eqb}
-use Rattle.reply.specs.declared.Check.{Check}
-use Rattle.reply.specs.declared.Check.TheVariants.{Accepted, Refused}
 use Rattle.reply.specs.declared.Refusal.TheVariants.{BadArgument}
-use Rattle.reply.specs.Refusals.{by_check}
+use Rattle.reply.specs.Refusals.{Check, by_check}
 use Rattle.transient.specs.declared.sizes.Sizes.{Sizes}
 use Rattle.transient.specs.Layout.{open_epoch}
 use Rattle.transient.specs.Store.{Store, Table, store, table, table_of, sizes_of, Outcome, after_check}
@@ -19,8 +17,6 @@ use Rattle.transient.specs.Calls.{Changed, refused, on_store}
 use Rattle.transient.specs.Requires.{Entered}
 use Rattle.transient.specs.Passed.{in_store, entry-with}
 use Rattle.transient.specs.Again.{TableKept, table_kept, kept-sizes, kept_entry}
-use Rattle.jobs.specs.declared.way.Way.{Way}
-use Rattle.jobs.specs.declared.way.Way.TheVariants.{Open, Declined}
 use Rattle.jobs.specs.Job.{Job, bad_job}
 use Rattle.jobs.specs.Way.{way_in, by_way}
 use Rattle.jobs.specs.Laws.{declines-way, way-operating}
@@ -38,6 +34,7 @@ use Rattle.job_batch.specs.Batch.{change_at, kind_of, job_of, change_job, change
 use Rattle.job_batch.specs.Stages.{by_kind, ended, Batched, change_open, ended_at, changes_open, by_list_way, batch_sized}
 use Rattle.job_batch.specs.Requires.{list-whole, change-words}
 use Rattle.job_batch.specs.Ways.{kind-way}
+use Rattle.reply.specs.declared.Refusal.{Refusal}
 
 -- ---- an accepted change keeps a store that passed refusals 1 and 2
 pub change-kept : {wk tr : List ℕ} {z : Sizes} → Entered wk tr z → (e : ℕ) (c : List ℕ) → TableKept z (table wk tr) (change_open z (table wk tr) e c).table
@@ -71,7 +68,7 @@ or-none false = refl
 
 -- ---- a store with an operation of the thread open, past refusals 1, 2, 5 and 7
 pub record Opened (z : Sizes) (thread e : ℕ) (st : Store) : Type 0 where
-  pub entry : entry_check st ≡ Accepted
+  pub entry : entry_check st ≡ Ok tt
   pub sizes : sizes_of (table_of st) ≡ z
   pub within : thread < z.t
   pub epoch : open_epoch st.transient thread ≡ e
@@ -82,7 +79,7 @@ module _ {z : Sizes} {thread e : ℕ} {st : Store} (o : Opened z thread e st) wh
   entered = rw o.sizes at (entry-with st.working st.persistent st.transient o.entry).entered
 
   -- 8 alone is left of the way in
-  way-left : (bad : Bool) → way_in z st.transient thread bad ≡ cond bad (Declined BadArgument) (Open e)
+  way-left : (bad : Bool) → way_in z st.transient thread bad ≡ cond bad (Err BadArgument) (Ok e)
   unfolding way_in
   way-left bad = rw (lt-leb z.t thread o.within, o.epoch, ne_eqb e 0 o.some)
 
@@ -91,7 +88,7 @@ module _ {z : Sizes} {thread e : ℕ} {st : Store} (o : Opened z thread e st) wh
       → on_store st (λ y tb. by_way (way_in y tb.transient thread (bad y)) tb (next y tb)) ≡ in_store st (cond (bad z) (refused BadArgument (table_of st)) (next z (table_of st) e))
   called bad next = rw (o.entry, o.sizes, way-left (bad z)) (go (bad z))
     where
-      go : (b : Bool) → in_store st (by_way (cond b (Declined BadArgument) (Open e)) (table_of st) (next z (table_of st))) ≡ in_store st (cond b (refused BadArgument (table_of st)) (next z (table_of st) e))
+      go : (b : Bool) → in_store st (by_way (cond b (Err BadArgument) (Ok e)) (table_of st) (next z (table_of st))) ≡ in_store st (cond b (refused BadArgument (table_of st)) (next z (table_of st) e))
       go true = refl
       go false = refl
 
@@ -150,13 +147,13 @@ module _ (z : Sizes) (thread e : ℕ) (list : List ℕ) where
       (go ch.reply ch.table (changes-same (suc k) more (in_store st ch).store (opened_after o (change_at z list k)) (λ i h. long i (omega arith))))
     where
       go : (r : Check) (tb : Table) → changes_from z thread list (suc k) more (after st tb) ≡ beside st (changes_open z e list (suc k) more tb)
-          → by_check r (λ q. ended k (Refused q) (after st tb)) (changes_from z thread list (suc k) more (after st tb))
-          ≡ beside st (by_check r (λ q. ended_at k (Refused q) tb) (changes_open z e list (suc k) more tb))
-      go (Refused q) tb x = refl
-      go Accepted tb x = x
+          → by_check r (λ q. ended k (Err q) (after st tb)) (changes_from z thread list (suc k) more (after st tb))
+          ≡ beside st (by_check r (λ q. ended_at k (Err q) tb) (changes_open z e list (suc k) more tb))
+      go (Err q) tb x = refl
+      go (Ok _) tb x = x
 
 -- ---- the whole batch past refusals 1 and 2
-pub batch-is : (st : Store) (thread : ℕ) (list : List ℕ) → entry_check st ≡ Accepted
+pub batch-is : (st : Store) (thread : ℕ) (list : List ℕ) → entry_check st ≡ Ok tt
     → batch_jobs st thread list ≡ beside st (batch_sized thread list (sizes_of (table_of st)) (table_of st))
 unfolding batch_jobs batch_sized
 batch-is st thread list a = rw a (go (way_in z st.transient thread (bad_list z list)) refl)
@@ -164,11 +161,11 @@ batch-is st thread list a = rw a (go (way_in z st.transient thread (bad_list z l
     z : Sizes
     z = sizes_of (table_of st)
 
-    go : (k : Way) → way_in z st.transient thread (bad_list z list) ≡ k
-        → after_check (way_check k) (λ r. record { accepted = 0; ended = Refused r }) st (changes_from z thread list 0 (length list / (z.w + 1)) st)
+    go : (k : Result ℕ Refusal) → way_in z st.transient thread (bad_list z list) ≡ k
+        → after_check (way_check k) (λ r. record { accepted = 0; ended = Err r }) st (changes_from z thread list 0 (length list / (z.w + 1)) st)
         ≡ beside st (by_list_way k (table_of st) (λ e. changes_open z e list 0 (length list / (z.w + 1)) (table_of st)))
-    go (Declined r) q = refl
-    go (Open e) q =
+    go (Err r) q = refl
+    go (Ok e) q =
         let o = way-operating z st.transient thread (bad_list z list) q in
         let whole = list-whole z list o.fine in
         changes-same z thread e list 0 _ st (record { entry = a; sizes = refl; within = o.within; epoch = o.epoch; some = o.some })

@@ -1,20 +1,19 @@
 -- Batch in the stages of its code: a change within an open operation, the changes of a list, with the sizes.
-use Rattle.std.specs.Prelude.{ℕ, zero, suc, ◌+◌, ◌/◌, Bool, true, false, cond, List, length, eqb}
-use Rattle.reply.specs.declared.Check.{Check}
-use Rattle.reply.specs.declared.Check.TheVariants.{Accepted, Refused}
+use Rattle.std.specs.Prelude.{ℕ, zero, suc, ◌+◌, ◌/◌, cond, List, length, eqb, Result, Ok, Err}
 use Rattle.reply.specs.declared.Refusal.TheVariants.{BadArgument}
-use Rattle.reply.specs.Refusals.{by_check}
+use Rattle.reply.specs.Refusals.{Check, by_check}
 use Rattle.transient.specs.declared.sizes.Sizes.{Sizes}
 use Rattle.transient.specs.Store.{Store, Table, table, Outcome}
 use Rattle.transient.specs.Calls.{Changed, refused}
-use Rattle.jobs.specs.declared.way.Way.{Way}
-use Rattle.jobs.specs.declared.way.Way.TheVariants.{Open, Declined}
 use Rattle.jobs.specs.Way.{way_in}
 use Rattle.job_new.specs.Stages.{new_open}
 use Rattle.job_set.specs.Stages.{set_opened}
 use Rattle.job_delete.specs.Stages.{delete_open}
 use Rattle.job_batch.specs.declared.Batch.{Batch}
+use Rattle.job_batch.specs.declared.Kind.{Kind}
+use Rattle.job_batch.specs.declared.Kind.TheVariants.{New, Set, Delete}
 use Rattle.job_batch.specs.Batch.{change_at, kind_of, job_of, bad_list}
+use Rattle.reply.specs.declared.Refusal.{Refusal}
 
 -- what a batch answers and leaves of a table
 pub record Batched : Type 0 where
@@ -35,8 +34,9 @@ ended k reply st = record { reply = record { accepted = k; ended = reply }; stor
 abbrev pub by_kind : {A : Type 0} → ℕ → A → A → A → A → A
 by_kind kind new set delete other = cond (eqb kind 1) new (cond (eqb kind 2) set (cond (eqb kind 3) delete other))
 
-unfoldable pub is_refused : Check → Bool
-is_refused k = by_check k (λ _. true) false
+-- a word as a kind
+abbrev pub kind_in : ℕ → Result Kind Refusal
+kind_in x = by_kind x (Ok New) (Ok Set) (Ok Delete) (Err BadArgument)
 
 -- a change of W + 1 words: a key of 0 is refused whatever its kind, and so is an unknown kind whatever its key
 unfoldable pub change_open : Sizes → Table → ℕ → List ℕ → Changed
@@ -45,14 +45,14 @@ change_open z tb e c =
     (by_kind (kind_of c) (new_open z tb (job_of c) e) (set_opened z tb (job_of c) e) (delete_open z tb (job_of c).key e) (refused BadArgument tb))
 
 unfoldable pub changes_open : Sizes → ℕ → List ℕ → ℕ → ℕ → Table → Batched
-changes_open z e list k zero tb = ended_at k Accepted tb
+changes_open z e list k zero tb = ended_at k (Ok tt) tb
 changes_open z e list k (suc more) tb =
     let ch = change_open z tb e (change_at z list k) in
-    by_check ch.reply (λ r. ended_at k (Refused r) ch.table) (changes_open z e list (suc k) more ch.table)
+    by_check ch.reply (λ r. ended_at k (Err r) ch.table) (changes_open z e list (suc k) more ch.table)
 
-abbrev pub by_list_way : Way → Table → (ℕ → Batched) → Batched
-by_list_way (Open e) tb next = next e
-by_list_way (Declined r) tb next = ended_at 0 (Refused r) tb
+abbrev pub by_list_way : Result ℕ Refusal → Table → (ℕ → Batched) → Batched
+by_list_way (Ok e) tb next = next e
+by_list_way (Err r) tb next = ended_at 0 (Err r) tb
 
 unfoldable pub batch_sized : ℕ → List ℕ → Sizes → Table → Batched
 batch_sized thread list z tb =

@@ -1,11 +1,9 @@
 -- What holds of every way through a change's kind; and "Change calls never store into the lasting image", nor does a batch of them.
-use Rattle.std.specs.Prelude.{ℕ, zero, suc, ◌+◌, ◌/◌, ◌≡◌, refl, Bool, true, false, cond, ◌≢◌, List, length, eqb}
+use Rattle.std.specs.Prelude.{ℕ, zero, suc, ◌+◌, ◌/◌, ◌≡◌, refl, Bool, true, false, cond, ◌≢◌, List, length, eqb, Ok, Err}
 use Rattle.std.proofs.Common.{◌∙◌, eqb-true}
 use Rattle.std.proofs.lemmas.Bool.{eqb-false}
-use Rattle.reply.specs.declared.Check.{Check}
-use Rattle.reply.specs.declared.Check.TheVariants.{Accepted, Refused}
 use Rattle.reply.specs.declared.Refusal.{Refusal}
-use Rattle.reply.specs.Refusals.{by_check}
+use Rattle.reply.specs.Refusals.{Check, by_check}
 use Rattle.transient.specs.declared.sizes.Sizes.{Sizes}
 use Rattle.transient.specs.Store.{Store, table_of, sizes_of, Outcome, after_check}
 use Rattle.transient.specs.Entry.{entry_check}
@@ -45,7 +43,7 @@ change-persistent st thread c =
 -- what holds where a change declines, and of the rest where it is accepted, holds from that change on
 pub next_way : (P : Outcome Batch → Type 0) (z : Sizes) (thread : ℕ) (list : List ℕ) (k more : ℕ) (st : Store)
     → (let o = change_job st thread (change_at z list k) in
-    ((r : Refusal) → o.reply ≡ Refused r → P (ended k (Refused r) o.store)) → (o.reply ≡ Accepted → P (changes_from z thread list (suc k) more o.store))
+    ((r : Refusal) → o.reply ≡ Err r → P (ended k (Err r) o.store)) → (o.reply ≡ Ok tt → P (changes_from z thread list (suc k) more o.store))
     → P (changes_from z thread list k (suc more) st))
 unfolding changes_from
 next_way P z thread list k more st a b = go o.reply refl
@@ -53,9 +51,9 @@ next_way P z thread list k more st a b = go o.reply refl
     o : Outcome Check
     o = change_job st thread (change_at z list k)
 
-    go : (r : Check) → o.reply ≡ r → P (by_check r (λ q. ended k (Refused q) o.store) (changes_from z thread list (suc k) more o.store))
-    go (Refused r) e = a r e
-    go Accepted e = b e
+    go : (r : Check) → o.reply ≡ r → P (by_check r (λ q. ended k (Err q) o.store) (changes_from z thread list (suc k) more o.store))
+    go (Err r) e = a r e
+    go (Ok _) e = b e
 
 changes-persistent : (z : Sizes) (thread : ℕ) (list : List ℕ) (k more : ℕ) (st : Store) → (changes_from z thread list k more st).store.persistent ≡ st.persistent
 unfolding changes_from
@@ -65,17 +63,17 @@ changes-persistent z thread list k (suc more) st =
     next_way (λ a. a.store.persistent ≡ st.persistent) z thread list k more st (λ r e. same) (λ e. changes-persistent z thread list (suc k) more _ ∙ same)
 
 -- what holds of a refusal with none accepted, and of the changes, holds of the whole call
-pub batch-way : (P : Outcome Batch → Type 0) (st : Store) (thread : ℕ) (list : List ℕ) → ((r : Refusal) → P (ended 0 (Refused r) st))
+pub batch-way : (P : Outcome Batch → Type 0) (st : Store) (thread : ℕ) (list : List ℕ) → ((r : Refusal) → P (ended 0 (Err r) st))
     → (let z = sizes_of (table_of st) in P (changes_from z thread list 0 (length list / (z.w + 1)) st)) → P (batch_jobs st thread list)
 unfolding batch_jobs
-batch-way P st thread list a b = go (by_check (entry_check st) Refused (way_check (way_in z st.transient thread (bad_list z list))))
+batch-way P st thread list a b = go (by_check (entry_check st) Err (way_check (way_in z st.transient thread (bad_list z list))))
   where
     z : Sizes
     z = sizes_of (table_of st)
 
-    go : (k : Check) → P (after_check k (λ r. record { accepted = 0; ended = Refused r }) st (changes_from z thread list 0 (length list / (z.w + 1)) st))
-    go (Refused r) = a r
-    go Accepted = b
+    go : (k : Check) → P (after_check k (λ r. record { accepted = 0; ended = Err r }) st (changes_from z thread list 0 (length list / (z.w + 1)) st))
+    go (Err r) = a r
+    go (Ok _) = b
 
 pub batch-persistent : (st : Store) (thread : ℕ) (list : List ℕ) → (batch_jobs st thread list).store.persistent ≡ st.persistent
 batch-persistent st thread list =

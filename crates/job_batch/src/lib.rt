@@ -1,34 +1,50 @@
 // Batch: a list of news, sets and deletes within one operation, up to the first that declines.
-#![tactic(auto)]
+#![tactic(auto, using(crate::specs::Exits::laws))]
 
 ghost use Rattle.std.specs.Prelude.{◌≡◌, ◌/◌, ◌+◌, length};
-ghost use Rattle.transient.specs.Store.{store, table, sizes_of, outcome};
+ghost use Rattle.transient.specs.Store.{store, table, outcome};
 ghost use Rattle.transient.specs.Calls.{changed};
 ghost use Rattle.transient.specs.Requires.{Entered};
 ghost use Rattle.job_batch.specs.Batch.{bad_list, batch_jobs};
-ghost use Rattle.job_batch.specs.Stages.{batched, is_refused, change_open, changes_open, batch_sized};
+ghost use Rattle.job_batch.specs.Stages.{batched, kind_in, change_open, changes_open, batch_sized};
 ghost use Rattle.job_batch.specs.Requires.{Changing, Listed, Narrow};
 
-use jobs::way::Way;
-use reply::{Check, Refusal};
+use reply::Refusal;
 use transient::sizes::Sizes;
 
 // How many changes were accepted, and what ended the batch: a refusal, or `Accepted` where none did.
 #[derive(Clone, Copy)]
 pub struct Batch {
     pub accepted: u32,
-    pub ended: Check,
+    pub ended: Result<(), Refusal>,
 }
 
 // At most so many changes.
 pub const MOST_CHANGES: usize = 64;
 
 // The kinds of a change.
-pub const NEW: u32 = 1;
+#[derive(Clone, Copy, Debug, PartialEq, Eq)]
+pub enum Kind {
+    New,
+    Set,
+    Delete,
+}
 
-pub const SET: u32 = 2;
+// A word as a kind: 1, 2 or 3.
+impl TryFrom<u32> for Kind {
+    type Error = Refusal;
 
-pub const DELETE: u32 = 3;
+    ghost try_from_gives = { λ x r. r ≡ kind_in x };
+
+    fn try_from(x: u32) -> Result<Self, Refusal> {
+        match x {
+            1 => Ok(Kind::New),
+            2 => Ok(Kind::Set),
+            3 => Ok(Kind::Delete),
+            _ => Err(Refusal::BadArgument),
+        }
+    }
+}
 
 // Are there too many changes, or is one not whole?
 fn bad_list(z: Sizes, changes: &[u32]) -> bool
@@ -42,33 +58,24 @@ fn bad_list(z: Sizes, changes: &[u32]) -> bool
 }
 
 // A change: kind, key and value.
-fn change(working: &mut [u32], transient: &mut [u32], z: Sizes, e: u32, c: &[u32]) -> Check
+fn change(
+    working: &mut [u32],
+    transient: &mut [u32],
+    z: Sizes,
+    e: u32,
+    c: &[u32],
+) -> Result<(), Refusal>
     requires { Changing working.old transient.old z c.now }
     ensures { changed result working.new transient.new ≡ change_open z (table working.old transient.old) e c.now }
 {
     let key = c[1];
     if key == 0 {
-        return Check::Refused(Refusal::BadArgument);
+        return Err(Refusal::BadArgument);
     }
-    if c[0] == NEW {
-        return job_new::new_open(working, transient, z, e, key, &c[2..c.len()]);
-    }
-    if c[0] == SET {
-        return job_set::set_open(working, transient, z, e, key, &c[2..c.len()]);
-    }
-    if c[0] == DELETE {
-        return job_delete::delete_open(working, transient, z, e, key);
-    }
-    Check::Refused(Refusal::BadArgument)
-}
-
-// Did a change decline?
-fn refused(reply: Check) -> bool
-    ensures { result ≡ is_refused reply }
-{
-    match reply {
-        Check::Accepted => false,
-        Check::Refused(_) => true,
+    match Kind::try_from(c[0])? {
+        Kind::New => job_new::new_open(working, transient, z, e, key, &c[2..]),
+        Kind::Set => job_set::set_open(working, transient, z, e, key, &c[2..]),
+        Kind::Delete => job_delete::delete_open(working, transient, z, e, key),
     }
 }
 
@@ -83,24 +90,22 @@ fn changes_open(
     requires { Listed working.old transient.old z changes.now }
     ensures { batched result working.new transient.new ≡ changes_open z e changes.now 0 (length changes.now / (z.w + 1)) (table working.old transient.old) }
 {
-    let mut k: u32 = 0;
-    let mut at: usize = 0;
-    while at < changes.len() {
-        let next = k + 1;
-        let end = at + z.w + 1;
-        let reply = change(working, transient, z, e, &changes[at..end]);
-        if refused(reply) {
-            return Batch {
-                accepted: k,
-                ended: reply,
-            };
+    let many = changes.len() / (z.w + 1);
+    for k in 0..many {
+        let at = (z.w + 1) * k;
+        match change(working, transient, z, e, &changes[at..at + z.w + 1]) {
+            Ok(()) => {}
+            Err(r) => {
+                return Batch {
+                    accepted: k as u32,
+                    ended: Err(r),
+                };
+            }
         }
-        k = next;
-        at = end;
     }
     Batch {
-        accepted: k,
-        ended: Check::Accepted,
+        accepted: many as u32,
+        ended: Ok(()),
     }
 }
 
@@ -116,15 +121,16 @@ fn batch_sized(
 {
     let bad = bad_list(z, changes);
     match jobs::way::way_in(transient, z, thread, bad) {
-        Way::Declined(r) => Batch {
+        Err(r) => Batch {
             accepted: 0,
-            ended: Check::Refused(r),
+            ended: Err(r),
         },
-        Way::Open(e) => changes_open(working, transient, z, e, changes),
+        Ok(e) => changes_open(working, transient, z, e, changes),
     }
 }
 
 // Makes the changes of a list one by one, in the open operation of the thread.
+#[tactic(auto, using(crate::specs::Exits::entering))]
 pub fn batch_jobs(
     working: &mut [u32],
     persistent: &[u32],
@@ -135,13 +141,13 @@ pub fn batch_jobs(
     ensures { outcome result working.new persistent.now transient.new ≡ batch_jobs (store working.old persistent.now transient.old) thread changes.now }
 {
     match transient::entry::check(working, persistent, transient) {
-        Check::Refused(r) => Batch {
+        Err(r) => Batch {
             accepted: 0,
-            ended: Check::Refused(r),
+            ended: Err(r),
         },
-        Check::Accepted => {
+        Ok(()) => {
             let z = transient::sizes::read_sizes(working, transient);
-            batch_sized(working, transient, z, image::shape::wide(thread), changes)
+            batch_sized(working, transient, z, thread as usize, changes)
         }
     }
 }

@@ -1,5 +1,6 @@
 -- After a delete the store passes refusals 1 and 2 again.
-use Rattle.std.specs.Prelude.{ℕ, ◌<◌, ◌≡◌, true, false, List}
+use Rattle.reply.specs.declared.Refusal.{Refusal}
+use Rattle.std.specs.Prelude.{ℕ, ◌<◌, ◌≡◌, true, false, List, Option, Some, None, Result, Ok, Err}
 use Rattle.std.proofs.Math.Path.{refl}
 use Rattle.std.proofs.Math.Logic.{⊎_elim}
 use Rattle.std.proofs.Math.Dec.{eqb}
@@ -11,8 +12,6 @@ use Rattle.transient.specs.Store.{table}
 use Rattle.transient.specs.Calls.{Changed}
 use Rattle.transient.specs.Requires.{Entered}
 use Rattle.transient.specs.Again.{TableKept, table_kept}
-use Rattle.table.specs.declared.find.Lookup.{Lookup}
-use Rattle.table.specs.declared.find.Lookup.TheVariants.{Later, Live, Absent}
 use Rattle.table.specs.Find.{lookup}
 use Rattle.table.specs.Laws.{lookup-below}
 use Rattle.jobs.specs.Again.{waiting_kept, freed-kept, header-kept, super-kept}
@@ -35,10 +34,10 @@ module _ {wk tr : List ℕ} {z : Sizes} (y : Entered wk tr z) (e key : ℕ) wher
       (λ (a : eqb (header wk s).epoch e ≡ false). rw (delete-at-is z (table wk tr) e s key, a) (super-kept y 1 e s _ _ _))
       (cases (eqb (header wk s).epoch e))
 
-  looked-kept : (k : Lookup) → lookup z (table wk tr) (job_name key) e ≡ k → Kept (delete_looked k z (table wk tr) e key)
-  looked-kept Later q = table_kept y
-  looked-kept (Live s) q = at-kept s (lookup-below z (table wk tr) (job_name key) e s q)
-  looked-kept Absent q = table_kept y
+  looked-kept : (k : Result (Option ℕ) Refusal) → lookup z (table wk tr) (job_name key) e ≡ k → Kept (delete_looked k z (table wk tr) e key)
+  looked-kept (Err r) q = table_kept y
+  looked-kept (Ok (Some s)) q = at-kept s (lookup-below z (table wk tr) (job_name key) e s q)
+  looked-kept (Ok None) q = table_kept y
 
   pub delete-kept : Kept (delete_open z (table wk tr) key e)
   unfolding delete_open

@@ -1,5 +1,5 @@
 // Delete: a job ends, at once or behind an anti-payload.
-#![tactic(auto)]
+#![tactic(auto, using(crate::specs::Exits::laws))]
 
 ghost use Rattle.std.specs.Prelude.{◌≡◌};
 ghost use Rattle.transient.specs.Store.{store, table, outcome};
@@ -11,10 +11,7 @@ ghost use Rattle.job_delete.specs.Stages.{freed_at, turned, covered, delete_open
 
 use image::header::Header;
 use image::name::Name;
-use jobs::way::Way;
-use reply::{Check, Refusal};
-use search::Found;
-use table::find::Lookup;
+use reply::Refusal;
 use transient::sizes::Sizes;
 
 // An ALLOC of this epoch: no other epoch knows it, so its slot is free at once.
@@ -25,45 +22,54 @@ fn free_now(
     e: u32,
     s: usize,
     key: u32,
-) -> Check
+) -> Result<(), Refusal>
     requires { Reached working.old transient.old z s }
     ensures { changed result working.new transient.new ≡ freed_at z (table working.old transient.old) e s key }
 {
     let board = image::header::board_at(working, z.n, s);
     image::header::set_header(working, z.n, s, Header::free());
     table::fill::note_freed(transient, z, e, s, Name { board, key });
-    Check::Accepted
+    Ok(())
 }
 
 // An UPDATE of this epoch becomes the anti-payload, contents kept.
-fn turn(working: &mut [u32], transient: &mut [u32], z: Sizes, e: u32, s: usize) -> Check
+fn turn(
+    working: &mut [u32],
+    transient: &mut [u32],
+    z: Sizes,
+    e: u32,
+    s: usize,
+) -> Result<(), Refusal>
     requires { Reached working.old transient.old z s }
     ensures { changed result working.new transient.new ≡ turned z (table working.old transient.old) e s }
 {
     let old = image::header::header_at(working, z.n, s);
     image::header::set_header(working, z.n, s, Header::anti(e, old));
     transient::lists::set_waiting(transient, z, e, s);
-    Check::Accepted
+    Ok(())
 }
 
 // The anti-payload takes a free slot, and the payload in slot s is retired in e.
-fn cover(working: &mut [u32], transient: &mut [u32], z: Sizes, e: u32, s: usize, key: u32) -> Check
+fn cover(
+    working: &mut [u32],
+    transient: &mut [u32],
+    z: Sizes,
+    e: u32,
+    s: usize,
+    key: u32,
+) -> Result<(), Refusal>
     requires { Reached working.old transient.old z s }
     ensures { changed result working.new transient.new ≡ covered z (table working.old transient.old) e s key }
 {
-    match table::find::room_for_one(working, transient, z) {
-        Found::At(f) => {
-            let h = Header::anti(e, image::header::header_at(working, z.n, s));
-            table::fill::fill_zeros(working, z, f, h, key);
-            let name = Name {
-                board: h.board,
-                key,
-            };
-            jobs::supersede::note_superseded(transient, z, e, s, f, name);
-            Check::Accepted
-        }
-        Found::Nothing => Check::Refused(Refusal::Full),
-    }
+    let f = table::find::room_for_one(working, transient, z).ok_or(Refusal::Full)?;
+    let h = Header::anti(e, image::header::header_at(working, z.n, s));
+    table::fill::fill_zeros(working, z, f, h, key);
+    let name = Name {
+        board: h.board,
+        key,
+    };
+    jobs::supersede::note_superseded(transient, z, e, s, f, name);
+    Ok(())
 }
 
 pub fn delete_at(
@@ -73,7 +79,7 @@ pub fn delete_at(
     e: u32,
     s: usize,
     key: u32,
-) -> Check
+) -> Result<(), Refusal>
     requires { Reached working.old transient.old z s }
     ensures { changed result working.new transient.new ≡ delete_at z (table working.old transient.old) e s key }
 {
@@ -88,15 +94,18 @@ pub fn delete_at(
 }
 
 // With an operation open: the key has been judged.
-pub fn delete_open(working: &mut [u32], transient: &mut [u32], z: Sizes, e: u32, key: u32) -> Check
+pub fn delete_open(
+    working: &mut [u32],
+    transient: &mut [u32],
+    z: Sizes,
+    e: u32,
+    key: u32,
+) -> Result<(), Refusal>
     requires { Entered working.old transient.old z }
     ensures { changed result working.new transient.new ≡ delete_open z (table working.old transient.old) key e }
 {
-    match table::find::look_up(working, transient, z, key, e) {
-        Lookup::Later => Check::Refused(Refusal::Newer),
-        Lookup::Live(s) => delete_at(working, transient, z, e, s, key),
-        Lookup::Absent => Check::Refused(Refusal::NoJob),
-    }
+    let s = table::find::look_up(working, transient, z, key, e)?.ok_or(Refusal::NoJob)?;
+    delete_at(working, transient, z, e, s, key)
 }
 
 fn delete_sized(
@@ -105,14 +114,12 @@ fn delete_sized(
     z: Sizes,
     thread: usize,
     key: u32,
-) -> Check
+) -> Result<(), Refusal>
     requires { Entered working.old transient.old z }
     ensures { changed result working.new transient.new ≡ delete_sized thread key z (table working.old transient.old) }
 {
-    match jobs::way::way_in(transient, z, thread, key == 0) {
-        Way::Declined(r) => Check::Refused(r),
-        Way::Open(e) => delete_open(working, transient, z, e, key),
-    }
+    let e = jobs::way::way_in(transient, z, thread, key == 0)?;
+    delete_open(working, transient, z, e, key)
 }
 
 // Ends a live job, in the open operation of the thread.
@@ -122,14 +129,10 @@ pub fn delete(
     transient: &mut [u32],
     thread: u32,
     key: u32,
-) -> Check
+) -> Result<(), Refusal>
     ensures { outcome result working.new persistent.now transient.new ≡ delete_job (store working.old persistent.now transient.old) thread key }
 {
-    match transient::entry::check(working, persistent, transient) {
-        Check::Refused(r) => Check::Refused(r),
-        Check::Accepted => {
-            let z = transient::sizes::read_sizes(working, transient);
-            delete_sized(working, transient, z, image::shape::wide(thread), key)
-        }
-    }
+    transient::entry::check(working, persistent, transient)?;
+    let z = transient::sizes::read_sizes(working, transient);
+    delete_sized(working, transient, z, thread as usize, key)
 }

@@ -1,8 +1,7 @@
 -- After a new the store passes refusals 1 and 2 again.
-use Rattle.std.specs.Prelude.{ℕ, ◌≤◌, ◌≡◌, refl, List, ltb}
+use Rattle.reply.specs.declared.Refusal.{Refusal}
+use Rattle.std.specs.Prelude.{ℕ, ◌≤◌, ◌≡◌, refl, List, ltb, Option, Some, None, Result, Ok, Err}
 use Rattle.std.proofs.Common.{ltb-false}
-use Rattle.search.specs.declared.Found.{Found}
-use Rattle.search.specs.declared.Found.TheVariants.{At, Nothing}
 use Rattle.reply.specs.declared.Refusal.TheVariants.{NoUid}
 use Rattle.image.specs.Layout.{most_number}
 use Rattle.image.specs.Name.{job_name}
@@ -12,8 +11,6 @@ use Rattle.transient.specs.Store.{table}
 use Rattle.transient.specs.Calls.{Changed}
 use Rattle.transient.specs.Requires.{Entered}
 use Rattle.transient.specs.Again.{TableKept, table_kept}
-use Rattle.table.specs.declared.find.Lookup.{Lookup}
-use Rattle.table.specs.declared.find.Lookup.TheVariants.{Later, Live, Absent}
 use Rattle.table.specs.Find.{lookup, room}
 use Rattle.table.specs.Laws.{room-below}
 use Rattle.jobs.specs.Job.{Job}
@@ -33,14 +30,14 @@ module _ {wk tr : List ℕ} {z : Sizes} (y : Entered wk tr z) (e : ℕ) (j : Job
       (declines-way Kept (table wk tr) (ltb most_number (note next_uid_at tr)) NoUid _ (table_kept y)
       (λ u. go (ltb-false most_number (note next_uid_at tr) u) (room z (table wk tr) 2) refl))
     where
-      go : note next_uid_at tr ≤ most_number → (g : Found) → room z (table wk tr) 2 ≡ g → Kept (new_in g z (table wk tr) e j)
-      go u (At s) q = made_kept y e s (job_name j.key) j.value (room-below z (table wk tr) 2 s y.last q) u
-      go u Nothing q = table_kept y
+      go : note next_uid_at tr ≤ most_number → (g : Option ℕ) → room z (table wk tr) 2 ≡ g → Kept (new_in g z (table wk tr) e j)
+      go u (Some s) q = made_kept y e s (job_name j.key) j.value (room-below z (table wk tr) 2 s y.last q) u
+      go u None q = table_kept y
 
-  looked-kept : (k : Lookup) → Kept (new_looked k z (table wk tr) e j)
-  looked-kept Later = table_kept y
-  looked-kept (Live s) = table_kept y
-  looked-kept Absent = absent-kept
+  looked-kept : (k : Result (Option ℕ) Refusal) → Kept (new_looked k z (table wk tr) e j)
+  looked-kept (Err r) = table_kept y
+  looked-kept (Ok (Some s)) = table_kept y
+  looked-kept (Ok None) = absent-kept
 
   pub new-kept : Kept (new_open z (table wk tr) j e)
   unfolding new_open

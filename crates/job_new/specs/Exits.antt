@@ -1,13 +1,9 @@
 -- The ways out of this crate's functions.
-use Rattle.std.specs.Prelude.{ℕ, ◌≤◌, ◌<◌, ◌≡◌, Bool, List}
+use Rattle.std.specs.Prelude.{ℕ, ◌≤◌, ◌<◌, ◌≡◌, Bool, List, Option, Some, None, Result, Ok, Err}
 use Rattle.std.proofs.Math.Path.{ap}
 use Rattle.std.proofs.Common.{lt-ltb, le-ltb}
-use Rattle.search.specs.declared.Found.{Found}
-use Rattle.search.specs.declared.Found.TheVariants.{At, Nothing}
-use Rattle.reply.specs.declared.Check.{Check}
-use Rattle.reply.specs.declared.Check.TheVariants.{Accepted, Refused}
 use Rattle.reply.specs.declared.Refusal.{Refusal}
-use Rattle.reply.specs.declared.Refusal.TheVariants.{Newer, JobExists, NoUid, Full}
+use Rattle.reply.specs.declared.Refusal.TheVariants.{JobExists, NoUid, Full}
 use Rattle.image.specs.declared.name.Name.{Name}
 use Rattle.image.specs.Layout.{most_number}
 use Rattle.image.specs.Name.{job_name}
@@ -19,10 +15,6 @@ use Rattle.transient.specs.Calls.{Changed, changed, refused, accepted}
 use Rattle.transient.specs.Requires.{entered-head, entered-notes}
 use Rattle.transient.specs.Passed.{on-declined, on-passed, passing}
 use Rattle.table.specs.Find.{lookup, room}
-use Rattle.table.specs.declared.find.Lookup.{Lookup}
-use Rattle.table.specs.declared.find.Lookup.TheVariants.{Later, Live, Absent}
-use Rattle.jobs.specs.declared.way.Way.{Way}
-use Rattle.jobs.specs.declared.way.Way.TheVariants.{Open, Declined}
 use Rattle.jobs.specs.Job.{Job, bad_job, made}
 use Rattle.jobs.specs.Way.{way_in}
 use Rattle.jobs.specs.Requires.{entered-wide, valued-entered, valued-shaped}
@@ -30,18 +22,19 @@ use Rattle.jobs.specs.Laws.{way-valued, way-declined, way-open}
 use Rattle.job_new.specs.New.{new_absent, new_job}
 use Rattle.job_new.specs.Stages.{new_at, new_in, new-absent-is, new_open, new_sized}
 use Rattle.job_new.specs.Requires.{ready_of, ready-entered, ready-placed}
+use Rattle.reply.specs.Refusals.{Check}
 
 module _ (z : Sizes) (tb : Table) (e : ℕ) (j : Job) where
-  pub new-done : (s : ℕ) {name : Name} {wk tr : List ℕ} → name ≡ job_name j.key → table wk tr ≡ made z tb e s name j.value → changed Accepted wk tr ≡ new_at z tb e s j
+  pub new-done : (s : ℕ) {name : Name} {wk tr : List ℕ} → name ≡ job_name j.key → table wk tr ≡ made z tb e s name j.value → changed (Ok tt) wk tr ≡ new_at z tb e s j
   unfolding new_at
   new-done s q h = ap accepted (rw q at h)
 
   -- 13
-  module _ {f : Found} (fr : f ≡ room z tb 2) where
-    pub new-full : f ≡ Nothing → refused Full tb ≡ new_in (room z tb 2) z tb e j
+  module _ {f : Option ℕ} (fr : f ≡ room z tb 2) where
+    pub new-full : f ≡ None → refused Full tb ≡ new_in (room z tb 2) z tb e j
     new-full a = rw (← fr, a)
 
-    pub new-placed : {s : ℕ} {x : Changed} → f ≡ At s → x ≡ new_at z tb e s j → x ≡ new_in (room z tb 2) z tb e j
+    pub new-placed : {s : ℕ} {x : Changed} → f ≡ Some s → x ≡ new_at z tb e s j → x ≡ new_in (room z tb 2) z tb e j
     new-placed a p = rw (← fr, a) p
 
   -- 12
@@ -53,26 +46,26 @@ module _ (z : Sizes) (tb : Table) (e : ℕ) (j : Job) where
     new-room h p = rw (new-absent-is z tb e j, ← ue, le-ltb most_number u h) p
 
   -- 9 and 11
-  module _ {k : Lookup} (lk : k ≡ lookup z tb (job_name j.key) e) where
-    pub new-later : k ≡ Later → refused Newer tb ≡ new_open z tb j e
+  module _ {k : Result (Option ℕ) Refusal} (lk : k ≡ lookup z tb (job_name j.key) e) where
+    pub new-later : {r : Refusal} → k ≡ Err r → refused r tb ≡ new_open z tb j e
     unfolding new_open
     new-later a = rw (← lk, a)
 
-    pub new-exists : {s : ℕ} → k ≡ Live s → refused JobExists tb ≡ new_open z tb j e
+    pub new-exists : {s : ℕ} → k ≡ Ok (Some s) → refused JobExists tb ≡ new_open z tb j e
     unfolding new_open
     new-exists a = rw (← lk, a)
 
-    pub new-absent : {x : Changed} → k ≡ Absent → x ≡ new_absent z tb e j → x ≡ new_open z tb j e
+    pub new-absent : {x : Changed} → k ≡ Ok None → x ≡ new_absent z tb e j → x ≡ new_open z tb j e
     unfolding new_open
     new-absent a p = rw (← lk, a) p
 
 -- 5, 7 and 8
-module _ (z : Sizes) (tb : Table) (thread : ℕ) (j : Job) (b : Bool) {k : Way} (be : b ≡ bad_job z j) (way : k ≡ way_in z tb.transient thread b) where
-  pub new-declined : {r : Refusal} → k ≡ Declined r → refused r tb ≡ new_sized thread j z tb
+module _ (z : Sizes) (tb : Table) (thread : ℕ) (j : Job) (b : Bool) {k : Result ℕ Refusal} (be : b ≡ bad_job z j) (way : k ≡ way_in z tb.transient thread b) where
+  pub new-declined : {r : Refusal} → k ≡ Err r → refused r tb ≡ new_sized thread j z tb
   unfolding new_sized
   new-declined a = way-declined z tb thread (bad_job z j) (new_open z tb j) (rw be at way) a
 
-  pub new-goes : {e : ℕ} {x : Changed} → k ≡ Open e → x ≡ new_open z tb j e → x ≡ new_sized thread j z tb
+  pub new-goes : {e : ℕ} {x : Changed} → k ≡ Ok e → x ≡ new_open z tb j e → x ≡ new_sized thread j z tb
   unfolding new_sized
   new-goes a p = way-open z tb thread (bad_job z j) (new_open z tb j) (rw be at way) a p
 
@@ -81,11 +74,11 @@ new-sizes tb thread j e i h = rw (i, e) at h
 
 -- 1 and 2
 module _ (wk l tr : List ℕ) (thread : ℕ) (j : Job) {k : Check} (c : k ≡ entry_check (store wk l tr)) where
-  pub new-refused : {r : Refusal} → k ≡ Refused r → outcome (Refused r) wk l tr ≡ new_job (store wk l tr) thread j
+  pub new-refused : {r : Refusal} → k ≡ Err r → outcome (Err r) wk l tr ≡ new_job (store wk l tr) thread j
   unfolding new_job new_sized new_open
   new-refused a = on-declined wk l tr c (new_sized thread j) a
 
-  pub new-enters : {q : Check} {wk' tr' : List ℕ} → k ≡ Accepted → changed q wk' tr' ≡ new_sized thread j (sizes_of (table wk tr)) (table wk tr) → outcome q wk' l tr' ≡ new_job (store wk l tr) thread j
+  pub new-enters : {q : Check} {wk' tr' : List ℕ} → k ≡ Ok tt → changed q wk' tr' ≡ new_sized thread j (sizes_of (table wk tr)) (table wk tr) → outcome q wk' l tr' ≡ new_job (store wk l tr) thread j
   unfolding new_job new_sized new_open
   new-enters a h = on-passed wk l tr c (new_sized thread j) a h
 

@@ -1,7 +1,6 @@
 -- 01: "New takes a free slot: ALLOC, label e, the next uid." 02, No. 2: "the board, 1 for jobs"
 use Rattle.std.specs.Prelude.{ℕ, cond, ltb}
 use Rattle.search.specs.First.{where_found}
-use Rattle.reply.specs.declared.Check.{Check}
 use Rattle.reply.specs.declared.Refusal.TheVariants.{JobExists, NoUid, Full}
 use Rattle.image.specs.Layout.{most_number}
 use Rattle.image.specs.Name.{job_name}
@@ -12,6 +11,7 @@ use Rattle.transient.specs.Calls.{Changed, refused, accepted}
 use Rattle.table.specs.Find.{room}
 use Rattle.jobs.specs.Job.{Job, bad_job, made}
 use Rattle.jobs.specs.Way.{on_job}
+use Rattle.reply.specs.Refusals.{Check}
 
 -- 12: "next uid above 4,000,000,000"; 13: "table full: too few free slots, where one is needed"; else a slot holds the new job
 unfoldable pub new_absent : Sizes → Table → ℕ → Job → Changed

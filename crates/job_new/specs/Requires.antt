@@ -1,8 +1,6 @@
 -- What functions inside new require: a value with a uid to give.
-use Rattle.std.specs.Prelude.{ℕ, ◌≤◌, ◌≡◌, List}
+use Rattle.std.specs.Prelude.{ℕ, ◌≤◌, ◌≡◌, List, Option, Some}
 use Rattle.std.proofs.Common.{arith}
-use Rattle.search.specs.declared.Found.{Found}
-use Rattle.search.specs.declared.Found.TheVariants.{At}
 use Rattle.image.specs.Layout.{most_number}
 use Rattle.transient.specs.declared.sizes.Sizes.{Sizes}
 use Rattle.transient.specs.Layout.{note, next_uid_at}
@@ -22,5 +20,5 @@ ready_of y e h = record { valued = y; uid-top = omega (arith, e) }
 pub ready-entered : {wk tr value : List ℕ} {z : Sizes} → Ready wk tr z value → Entered wk tr z
 ready-entered y = y.valued.entered
 
-pub ready-placed : {wk tr value : List ℕ} {z : Sizes} {s : ℕ} {g : Found} (k : ℕ) → Ready wk tr z value → g ≡ room z (table wk tr) k → g ≡ At s → Placed wk tr z s value
+pub ready-placed : {wk tr value : List ℕ} {z : Sizes} {s : ℕ} {g : Option ℕ} (k : ℕ) → Ready wk tr z value → g ≡ room z (table wk tr) k → g ≡ Some s → Placed wk tr z s value
 ready-placed k y c a = record { held = record { reached = room-reached k c a y.valued.entered; words = y.valued.words }; uid-top = y.uid-top }

@@ -1,5 +1,5 @@
 // New: a job that was not there.
-#![tactic(auto)]
+#![tactic(auto, using(crate::specs::Exits::laws))]
 
 ghost use Rattle.std.specs.Prelude.{◌≡◌};
 ghost use Rattle.transient.specs.Store.{store, table, sizes_of, outcome};
@@ -13,10 +13,7 @@ ghost use Rattle.job_new.specs.Stages.{new_at, new_in, new_open, new_sized};
 ghost use Rattle.job_new.specs.Requires.{Ready};
 
 use image::name::Name;
-use jobs::way::Way;
-use reply::{Check, Refusal};
-use search::Found;
-use table::find::Lookup;
+use reply::Refusal;
 use transient::sizes::Sizes;
 
 fn new_at(
@@ -27,7 +24,7 @@ fn new_at(
     s: usize,
     key: u32,
     value: &[u32],
-) -> Check
+) -> Result<(), Refusal>
     requires { Placed working.old transient.old z s value.now }
     ensures { changed result working.new transient.new ≡ new_at z (table working.old transient.old) e s (job key value.now) }
 {
@@ -37,7 +34,7 @@ fn new_at(
         t: z.t,
     };
     jobs::make::make_at(working, transient, anew, e, s, Name::job(key), value);
-    Check::Accepted
+    Ok(())
 }
 
 fn new_in_room(
@@ -47,14 +44,12 @@ fn new_in_room(
     e: u32,
     key: u32,
     value: &[u32],
-) -> Check
+) -> Result<(), Refusal>
     requires { Ready working.old transient.old z value.now }
     ensures { changed result working.new transient.new ≡ new_in (room z (table working.old transient.old) 2) z (table working.old transient.old) e (job key value.now) }
 {
-    match table::find::room_for_two(working, transient, z) {
-        Found::At(s) => new_at(working, transient, z, e, s, key, value),
-        Found::Nothing => Check::Refused(Refusal::Full),
-    }
+    let s = table::find::room_for_two(working, transient, z).ok_or(Refusal::Full)?;
+    new_at(working, transient, z, e, s, key, value)
 }
 
 fn new_absent(
@@ -64,12 +59,12 @@ fn new_absent(
     e: u32,
     key: u32,
     value: &[u32],
-) -> Check
+) -> Result<(), Refusal>
     requires { Valued working.old transient.old z value.now }
     ensures { changed result working.new transient.new ≡ new_absent z (table working.old transient.old) e (job key value.now) }
 {
     if image::shape::MOST_NUMBER < transient::notes::next_uid(transient) {
-        return Check::Refused(Refusal::NoUid);
+        return Err(Refusal::NoUid);
     }
     new_in_room(working, transient, z, e, key, value)
 }
@@ -82,7 +77,7 @@ pub fn new_open(
     e: u32,
     key: u32,
     value: &[u32],
-) -> Check
+) -> Result<(), Refusal>
     requires { Valued working.old transient.old z value.now }
     ensures { changed result working.new transient.new ≡ new_open z (table working.old transient.old) (job key value.now) e }
 {
@@ -93,10 +88,9 @@ pub fn new_open(
         w: z.w,
         t: z.t,
     };
-    match table::find::look_up(working, transient, anew, key, e) {
-        Lookup::Later => Check::Refused(Refusal::Newer),
-        Lookup::Live(_) => Check::Refused(Refusal::JobExists),
-        Lookup::Absent => new_absent(working, transient, z, e, key, value),
+    match table::find::look_up(working, transient, anew, key, e)? {
+        Some(_) => Err(Refusal::JobExists),
+        None => new_absent(working, transient, z, e, key, value),
     }
 }
 
@@ -107,15 +101,13 @@ fn new_sized(
     thread: usize,
     key: u32,
     value: &[u32],
-) -> Check
+) -> Result<(), Refusal>
     requires { Entered working.old transient.old z }
     ensures { changed result working.new transient.new ≡ new_sized thread (job key value.now) z (table working.old transient.old) }
 {
     let bad = jobs::way::bad_job(z, key, value);
-    match jobs::way::way_in(transient, z, thread, bad) {
-        Way::Declined(r) => Check::Refused(r),
-        Way::Open(e) => new_open(working, transient, z, e, key, value),
-    }
+    let e = jobs::way::way_in(transient, z, thread, bad)?;
+    new_open(working, transient, z, e, key, value)
 }
 
 fn new_entered(
@@ -124,19 +116,12 @@ fn new_entered(
     thread: u32,
     key: u32,
     value: &[u32],
-) -> Check
+) -> Result<(), Refusal>
     requires { Entered working.old transient.old (sizes_of (table working.old transient.old)) }
     ensures { changed result working.new transient.new ≡ new_sized thread (job key value.now) (sizes_of (table working.old transient.old)) (table working.old transient.old) }
 {
     let z = transient::sizes::read_sizes(working, transient);
-    new_sized(
-        working,
-        transient,
-        z,
-        image::shape::wide(thread),
-        key,
-        value,
-    )
+    new_sized(working, transient, z, thread as usize, key, value)
 }
 
 // Makes a job in the open operation of the thread.
@@ -147,11 +132,9 @@ pub fn new(
     thread: u32,
     key: u32,
     value: &[u32],
-) -> Check
+) -> Result<(), Refusal>
     ensures { outcome result working.new persistent.now transient.new ≡ new_job (store working.old persistent.now transient.old) thread (job key value.now) }
 {
-    match transient::entry::check(working, persistent, transient) {
-        Check::Refused(r) => Check::Refused(r),
-        Check::Accepted => new_entered(working, transient, thread, key, value),
-    }
+    transient::entry::check(working, persistent, transient)?;
+    new_entered(working, transient, thread, key, value)
 }

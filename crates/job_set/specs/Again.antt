@@ -1,5 +1,6 @@
 -- After a set the store passes refusals 1 and 2 again.
-use Rattle.std.specs.Prelude.{ℕ, ◌<◌, ◌≡◌, true, false, List}
+use Rattle.reply.specs.declared.Refusal.{Refusal}
+use Rattle.std.specs.Prelude.{ℕ, ◌<◌, ◌≡◌, true, false, List, Option, Some, None, Result, Ok, Err}
 use Rattle.std.proofs.Math.Path.{refl}
 use Rattle.std.proofs.Math.Logic.{⊎_elim}
 use Rattle.std.proofs.Math.Dec.{eqb}
@@ -11,8 +12,6 @@ use Rattle.transient.specs.Store.{table}
 use Rattle.transient.specs.Calls.{Changed}
 use Rattle.transient.specs.Requires.{Entered}
 use Rattle.transient.specs.Again.{TableKept, table_kept}
-use Rattle.table.specs.declared.find.Lookup.{Lookup}
-use Rattle.table.specs.declared.find.Lookup.TheVariants.{Later, Live, Absent}
 use Rattle.table.specs.Find.{lookup}
 use Rattle.table.specs.Laws.{lookup-below}
 use Rattle.jobs.specs.Job.{Job}
@@ -36,10 +35,10 @@ module _ {wk tr : List ℕ} {z : Sizes} (y : Entered wk tr z) (e : ℕ) (j : Job
   live-kept : (s : ℕ) → s < z.n → Kept (set_live z (table wk tr) e s j)
   live-kept s h = live-way Kept z (table wk tr) e s j (λ p q. table_kept y) (at-kept s h)
 
-  looked-kept : (k : Lookup) → lookup z (table wk tr) (job_name j.key) e ≡ k → Kept (set_looked k z (table wk tr) e j)
-  looked-kept Later q = table_kept y
-  looked-kept (Live s) q = live-kept s (lookup-below z (table wk tr) (job_name j.key) e s q)
-  looked-kept Absent q = table_kept y
+  looked-kept : (k : Result (Option ℕ) Refusal) → lookup z (table wk tr) (job_name j.key) e ≡ k → Kept (set_looked k z (table wk tr) e j)
+  looked-kept (Err r) q = table_kept y
+  looked-kept (Ok (Some s)) q = live-kept s (lookup-below z (table wk tr) (job_name j.key) e s q)
+  looked-kept (Ok None) q = table_kept y
 
   pub set-kept : Kept (set_opened z (table wk tr) j e)
   unfolding set_opened

@@ -1,12 +1,8 @@
 -- The ways out of this crate's functions.
-use Rattle.std.specs.Prelude.{ℕ, ◌≡◌, Bool, true, false, List, ◌∷◌}
+use Rattle.std.specs.Prelude.{ℕ, ◌≡◌, Bool, true, false, List, ◌∷◌, Option, Some, None, Result, Ok, Err}
 use Rattle.std.proofs.Common.{eq-eqb, ne_eqb}
-use Rattle.search.specs.declared.Found.{Found}
-use Rattle.search.specs.declared.Found.TheVariants.{At, Nothing}
-use Rattle.reply.specs.declared.Check.{Check}
-use Rattle.reply.specs.declared.Check.TheVariants.{Accepted, Refused}
 use Rattle.reply.specs.declared.Refusal.{Refusal}
-use Rattle.reply.specs.declared.Refusal.TheVariants.{Newer, NoJob, Full}
+use Rattle.reply.specs.declared.Refusal.TheVariants.{NoJob, Full}
 use Rattle.image.specs.declared.header.Header.{Header}
 use Rattle.image.specs.Layout.{header, updated_header}
 use Rattle.image.specs.Name.{job_name, name_of}
@@ -20,19 +16,16 @@ use Rattle.transient.specs.Passed.{on-declined, on-passed, passing}
 use Rattle.table.specs.Find.{lookup, room}
 use Rattle.table.specs.Fill.{filled_slot, taken}
 use Rattle.table.specs.Requires.{set_value}
-use Rattle.table.specs.declared.find.Lookup.{Lookup}
-use Rattle.table.specs.declared.find.Lookup.TheVariants.{Later, Live, Absent}
-use Rattle.jobs.specs.declared.way.Way.{Way}
-use Rattle.jobs.specs.declared.way.Way.TheVariants.{Open, Declined}
 use Rattle.jobs.specs.Job.{Job, bad_job}
 use Rattle.jobs.specs.Way.{way_in}
 use Rattle.jobs.specs.Requires.{reaching}
 use Rattle.jobs.specs.Laws.{way-valued, way-declined, way-open}
 use Rattle.job_set.specs.Set.{same_value, set_live, set_job}
 use Rattle.job_set.specs.Stages.{rewritten, resaved, renewed, set-live-is, set_opened, set_sized}
+use Rattle.reply.specs.Refusals.{Check}
 
 module _ (z : Sizes) (tb : Table) (e s : ℕ) where
-  pub rewrite-done : (value : List ℕ) {wk tr : List ℕ} → wk ≡ set_value z tb.working s value → tr ≡ set_waiting tb.transient e s → changed Accepted wk tr ≡ rewritten z tb e s value
+  pub rewrite-done : (value : List ℕ) {wk tr : List ℕ} → wk ≡ set_value z tb.working s value → tr ≡ set_waiting tb.transient e s → changed (Ok tt) wk tr ≡ rewritten z tb e s value
   unfolding rewritten
   rewrite-done value p q = rw (p, q)
 
@@ -45,46 +38,46 @@ module _ (z : Sizes) (tb : Table) (e s : ℕ) where
 
 -- the same value again, or 13
 module _ (z : Sizes) (wk : List ℕ) (s : ℕ) (value : List ℕ) {b : Bool} (same : b ≡ same_value z wk s value) where
-  pub resave-same : b ≡ true → Accepted ≡ resaved z wk s value
+  pub resave-same : b ≡ true → Ok tt ≡ resaved z wk s value
   unfolding resaved
   resave-same a = rw (← same, a)
 
-  pub resave-full : b ≡ false → Refused Full ≡ resaved z wk s value
+  pub resave-full : b ≡ false → Err Full ≡ resaved z wk s value
   unfolding resaved
   resave-full a = rw (← same, a)
 
 -- by a new version, or without one
-module _ (z : Sizes) (tb : Table) (e s : ℕ) (j : Job) {f : Found} (fr : f ≡ room z tb 2) where
-  pub update-none : {k : Check} → f ≡ Nothing → k ≡ resaved z tb.working s j.value → record { reply = k; table = tb } ≡ renewed z tb e s j
+module _ (z : Sizes) (tb : Table) (e s : ℕ) (j : Job) {f : Option ℕ} (fr : f ≡ room z tb 2) where
+  pub update-none : {k : Check} → f ≡ None → k ≡ resaved z tb.working s j.value → record { reply = k; table = tb } ≡ renewed z tb e s j
   unfolding renewed
   update-none a p = rw (← fr, a, p)
 
-  pub update-done : {i : ℕ} {g h : Header} {wk tr : List ℕ} → f ≡ At i → g ≡ header tb.working s → h ≡ updated_header e g → wk ≡ filled_slot z tb.working i h (j.key ∷ j.value)
-      → tr ≡ set_retired z (taken z tb.transient e i (name_of h.board j.key)) s e → changed Accepted wk tr ≡ renewed z tb e s j
+  pub update-done : {i : ℕ} {g h : Header} {wk tr : List ℕ} → f ≡ Some i → g ≡ header tb.working s → h ≡ updated_header e g → wk ≡ filled_slot z tb.working i h (j.key ∷ j.value)
+      → tr ≡ set_retired z (taken z tb.transient e i (name_of h.board j.key)) s e → changed (Ok tt) wk tr ≡ renewed z tb e s j
   unfolding renewed
   update-done a at hd p q = rw (← fr, a, p, q, hd, at)
 
 -- 9 and 10
-module _ (z : Sizes) (tb : Table) (e : ℕ) (j : Job) {k : Lookup} (lk : k ≡ lookup z tb (job_name j.key) e) where
-  pub set-later : k ≡ Later → refused Newer tb ≡ set_opened z tb j e
+module _ (z : Sizes) (tb : Table) (e : ℕ) (j : Job) {k : Result (Option ℕ) Refusal} (lk : k ≡ lookup z tb (job_name j.key) e) where
+  pub set-later : {r : Refusal} → k ≡ Err r → refused r tb ≡ set_opened z tb j e
   unfolding set_opened
   set-later a = rw (← lk, a)
 
-  pub set-live : {s : ℕ} {x : Changed} → k ≡ Live s → x ≡ set_live z tb e s j → x ≡ set_opened z tb j e
+  pub set-live : {s : ℕ} {x : Changed} → k ≡ Ok (Some s) → x ≡ set_live z tb e s j → x ≡ set_opened z tb j e
   unfolding set_opened
   set-live a p = rw (← lk, a) p
 
-  pub set-absent : k ≡ Absent → refused NoJob tb ≡ set_opened z tb j e
+  pub set-absent : k ≡ Ok None → refused NoJob tb ≡ set_opened z tb j e
   unfolding set_opened
   set-absent a = rw (← lk, a)
 
 -- 5, 7 and 8
-module _ (z : Sizes) (tb : Table) (thread : ℕ) (j : Job) (b : Bool) {k : Way} (be : b ≡ bad_job z j) (way : k ≡ way_in z tb.transient thread b) where
-  pub set-declined : {r : Refusal} → k ≡ Declined r → refused r tb ≡ set_sized thread j z tb
+module _ (z : Sizes) (tb : Table) (thread : ℕ) (j : Job) (b : Bool) {k : Result ℕ Refusal} (be : b ≡ bad_job z j) (way : k ≡ way_in z tb.transient thread b) where
+  pub set-declined : {r : Refusal} → k ≡ Err r → refused r tb ≡ set_sized thread j z tb
   unfolding set_sized
   set-declined a = way-declined z tb thread (bad_job z j) (set_opened z tb j) (rw be at way) a
 
-  pub set-goes : {e : ℕ} {x : Changed} → k ≡ Open e → x ≡ set_opened z tb j e → x ≡ set_sized thread j z tb
+  pub set-goes : {e : ℕ} {x : Changed} → k ≡ Ok e → x ≡ set_opened z tb j e → x ≡ set_sized thread j z tb
   unfolding set_sized
   set-goes a p = way-open z tb thread (bad_job z j) (set_opened z tb j) (rw be at way) a p
 
@@ -93,11 +86,11 @@ set-sizes tb thread j e i h = rw (i, e) at h
 
 -- 1 and 2
 module _ (wk l tr : List ℕ) (thread : ℕ) (j : Job) {k : Check} (c : k ≡ entry_check (store wk l tr)) where
-  pub set-refused : {r : Refusal} → k ≡ Refused r → outcome (Refused r) wk l tr ≡ set_job (store wk l tr) thread j
+  pub set-refused : {r : Refusal} → k ≡ Err r → outcome (Err r) wk l tr ≡ set_job (store wk l tr) thread j
   unfolding set_job set_sized set_opened
   set-refused a = on-declined wk l tr c (set_sized thread j) a
 
-  pub set-enters : {q : Check} {wk' tr' : List ℕ} → k ≡ Accepted → changed q wk' tr' ≡ set_sized thread j (sizes_of (table wk tr)) (table wk tr) → outcome q wk' l tr' ≡ set_job (store wk l tr) thread j
+  pub set-enters : {q : Check} {wk' tr' : List ℕ} → k ≡ Ok tt → changed q wk' tr' ≡ set_sized thread j (sizes_of (table wk tr)) (table wk tr) → outcome q wk' l tr' ≡ set_job (store wk l tr) thread j
   unfolding set_job set_sized set_opened
   set-enters a h = on-passed wk l tr c (set_sized thread j) a h
 

@@ -1,9 +1,7 @@
 -- 01: "Set on a payload labelled e rewrites the value in its slot. On an older one it takes a free slot for an UPDATE (label e,
 -- same uid and key) and retires the old one in e."
-use Rattle.std.specs.Prelude.{ℕ, ◌+◌, ◌-◌, Bool, cond, ◌&&◌, List, get_or, eqb}
+use Rattle.std.specs.Prelude.{ℕ, ◌+◌, ◌-◌, Bool, cond, ◌&&◌, List, get_or, eqb, Ok}
 use Rattle.search.specs.Some.{every}
-use Rattle.reply.specs.declared.Check.{Check}
-use Rattle.reply.specs.declared.Check.TheVariants.{Accepted}
 use Rattle.reply.specs.declared.Refusal.TheVariants.{NoJob}
 use Rattle.image.specs.Layout.{contents_at, header, value_at, updated_header}
 use Rattle.image.specs.Line.{store_line}
@@ -14,12 +12,13 @@ use Rattle.transient.specs.Calls.{Changed, changed, accepted, refused, check_num
 use Rattle.table.specs.Find.{room}
 use Rattle.jobs.specs.Job.{Job, bad_job, superseded}
 use Rattle.jobs.specs.Way.{on_job}
+use Rattle.reply.specs.Refusals.{Check}
 
 -- the live slot s: in place, or by a new version
 unfoldable pub set_at : Sizes → Table → ℕ → ℕ → Job → Changed
 set_at z tb e s j =
     cond (eqb (header tb.working s).epoch e)
-    (changed Accepted (store_line tb.working (record { at = contents_at z.n z.w s + 1; words = j.value })) (set_waiting tb.transient e s))
+    (changed (Ok tt) (store_line tb.working (record { at = contents_at z.n z.w s + 1; words = j.value })) (set_waiting tb.transient e s))
     (superseded (room z tb 2) z tb e s (updated_header e (header tb.working s)) j.key j.value)
 
 -- "the new value equals the present one": each of its V words, in working

@@ -1,5 +1,5 @@
 // Set: another value for a live job.
-#![tactic(auto)]
+#![tactic(auto, using(crate::specs::Exits::laws))]
 
 ghost use Rattle.std.specs.Prelude.{◌≡◌};
 ghost use Rattle.transient.specs.Store.{store, table, sizes_of, outcome};
@@ -13,10 +13,7 @@ ghost use Rattle.job_set.specs.Stages.{rewritten, resaved, renewed, set_opened, 
 
 use image::header::Header;
 use image::name::Name;
-use jobs::way::Way;
-use reply::{Check, Refusal};
-use search::Found;
-use table::find::Lookup;
+use reply::Refusal;
 use transient::sizes::Sizes;
 
 fn rewrite(
@@ -26,42 +23,34 @@ fn rewrite(
     e: u32,
     s: usize,
     value: &[u32],
-) -> Check
+) -> Result<(), Refusal>
     requires { Held working.old transient.old z s value.now }
     ensures { changed result working.new transient.new ≡ rewritten z (table working.old transient.old) e s value.now }
 {
     table::fill::set_value(working, z, s, value);
     transient::lists::set_waiting(transient, z, e, s);
-    Check::Accepted
+    Ok(())
 }
 
 // Does slot s hold this value?
+#[tactic(auto, using(crate::specs::Same::comparing))]
 fn same_value(working: &[u32], z: Sizes, s: usize, value: &[u32]) -> bool
     requires { SlotValue working.now z s value.now }
     ensures { result ≡ same_value z working.now s value.now }
 {
-    let b = image::contents::contents_at(z.n, z.w, s) + 1;
-    let words = z.w - 1;
-    let mut i = 0;
-    while i < words {
-        if value[i] == working[b + i] {
-            i += 1;
-        } else {
-            return false;
-        }
-    }
-    true
+    let first = image::contents::contents_at(z.n, z.w, s) + 1;
+    value == &working[first..first + z.w - 1]
 }
 
 // No room for a new version: the value that slot s holds is accepted, and nothing changes.
-fn resave(working: &[u32], z: Sizes, s: usize, value: &[u32]) -> Check
+fn resave(working: &[u32], z: Sizes, s: usize, value: &[u32]) -> Result<(), Refusal>
     requires { SlotValue working.now z s value.now }
     ensures { result ≡ resaved z working.now s value.now }
 {
     if same_value(working, z, s, value) {
-        Check::Accepted
+        Ok(())
     } else {
-        Check::Refused(Refusal::Full)
+        Err(Refusal::Full)
     }
 }
 
@@ -74,12 +63,12 @@ fn update(
     s: usize,
     key: u32,
     value: &[u32],
-) -> Check
+) -> Result<(), Refusal>
     requires { Held working.old transient.old z s value.now }
     ensures { changed result working.new transient.new ≡ renewed z (table working.old transient.old) e s (job key value.now) }
 {
     match table::find::room_for_two(working, transient, z) {
-        Found::At(f) => {
+        Some(f) => {
             let h = Header::updated(e, image::header::header_at(working, z.n, s));
             table::fill::fill(working, z, f, h, key, value);
             let name = Name {
@@ -87,9 +76,9 @@ fn update(
                 key,
             };
             jobs::supersede::note_superseded(transient, z, e, s, f, name);
-            Check::Accepted
+            Ok(())
         }
-        Found::Nothing => resave(working, z, s, value),
+        None => resave(working, z, s, value),
     }
 }
 
@@ -101,7 +90,7 @@ fn set_live(
     s: usize,
     key: u32,
     value: &[u32],
-) -> Check
+) -> Result<(), Refusal>
     requires { Held working.old transient.old z s value.now }
     ensures { changed result working.new transient.new ≡ set_live z (table working.old transient.old) e s (job key value.now) }
 {
@@ -120,7 +109,7 @@ pub fn set_open(
     e: u32,
     key: u32,
     value: &[u32],
-) -> Check
+) -> Result<(), Refusal>
     requires { Valued working.old transient.old z value.now }
     ensures { changed result working.new transient.new ≡ set_opened z (table working.old transient.old) (job key value.now) e }
 {
@@ -131,11 +120,8 @@ pub fn set_open(
         w: z.w,
         t: z.t,
     };
-    match table::find::look_up(working, transient, anew, key, e) {
-        Lookup::Later => Check::Refused(Refusal::Newer),
-        Lookup::Live(s) => set_live(working, transient, z, e, s, key, value),
-        Lookup::Absent => Check::Refused(Refusal::NoJob),
-    }
+    let s = table::find::look_up(working, transient, anew, key, e)?.ok_or(Refusal::NoJob)?;
+    set_live(working, transient, z, e, s, key, value)
 }
 
 fn set_sized(
@@ -145,15 +131,13 @@ fn set_sized(
     thread: usize,
     key: u32,
     value: &[u32],
-) -> Check
+) -> Result<(), Refusal>
     requires { Entered working.old transient.old z }
     ensures { changed result working.new transient.new ≡ set_sized thread (job key value.now) z (table working.old transient.old) }
 {
     let bad = jobs::way::bad_job(z, key, value);
-    match jobs::way::way_in(transient, z, thread, bad) {
-        Way::Declined(r) => Check::Refused(r),
-        Way::Open(e) => set_open(working, transient, z, e, key, value),
-    }
+    let e = jobs::way::way_in(transient, z, thread, bad)?;
+    set_open(working, transient, z, e, key, value)
 }
 
 fn set_entered(
@@ -162,19 +146,12 @@ fn set_entered(
     thread: u32,
     key: u32,
     value: &[u32],
-) -> Check
+) -> Result<(), Refusal>
     requires { Entered working.old transient.old (sizes_of (table working.old transient.old)) }
     ensures { changed result working.new transient.new ≡ set_sized thread (job key value.now) (sizes_of (table working.old transient.old)) (table working.old transient.old) }
 {
     let z = transient::sizes::read_sizes(working, transient);
-    set_sized(
-        working,
-        transient,
-        z,
-        image::shape::wide(thread),
-        key,
-        value,
-    )
+    set_sized(working, transient, z, thread as usize, key, value)
 }
 
 // Gives a live job another value, in the open operation of the thread.
@@ -185,11 +162,9 @@ pub fn set(
     thread: u32,
     key: u32,
     value: &[u32],
-) -> Check
+) -> Result<(), Refusal>
     ensures { outcome result working.new persistent.now transient.new ≡ set_job (store working.old persistent.now transient.old) thread (job key value.now) }
 {
-    match transient::entry::check(working, persistent, transient) {
-        Check::Refused(r) => Check::Refused(r),
-        Check::Accepted => set_entered(working, transient, thread, key, value),
-    }
+    transient::entry::check(working, persistent, transient)?;
+    set_entered(working, transient, thread, key, value)
 }

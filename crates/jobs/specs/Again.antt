@@ -1,8 +1,6 @@
 -- A change that fills, rewrites or frees a slot leaves a store that passes refusals 1 and 2 again (`TableKept`).
-use Rattle.std.specs.Prelude.{ℕ, ◌+◌, ◌≤◌, ◌<◌, ◌≡◌, refl, List, ◌∷◌}
+use Rattle.std.specs.Prelude.{ℕ, ◌+◌, ◌≤◌, ◌<◌, ◌≡◌, refl, List, ◌∷◌, Option, Some, None}
 use Rattle.std.proofs.Common.{arith}
-use Rattle.search.specs.declared.Found.{Found}
-use Rattle.search.specs.declared.Found.TheVariants.{At, Nothing}
 use Rattle.image.specs.declared.header.Header.{Header}
 use Rattle.image.specs.declared.name.Name.{Name}
 use Rattle.image.specs.Layout.{most_number, key_at}
@@ -73,6 +71,6 @@ module _ {wk tr : List ℕ} {z : Sizes} (y : Entered wk tr z) where
       → TableKept z (table wk tr) (superseded (room z (table wk tr) k) z (table wk tr) e s h key value).table
   super-kept k e s h key value = go (room z (table wk tr) k) refl
     where
-      go : (g : Found) → room z (table wk tr) k ≡ g → TableKept z (table wk tr) (superseded g z (table wk tr) e s h key value).table
-      go (At f) q = filled-kept (kept-front (taken-kept e f _ (room-below z (table wk tr) k f y.last q)) (retired-front _ z s e)) f h (key ∷ value)
-      go Nothing q = table_kept y
+      go : (g : Option ℕ) → room z (table wk tr) k ≡ g → TableKept z (table wk tr) (superseded g z (table wk tr) e s h key value).table
+      go (Some f) q = filled-kept (kept-front (taken-kept e f _ (room-below z (table wk tr) k f y.last q)) (retired-front _ z s e)) f h (key ∷ value)
+      go None q = table_kept y

@@ -1,5 +1,5 @@
 -- The ways out of this crate's functions.
-use Rattle.std.specs.Prelude.{ℕ, ◌+◌, ◌-◌, ◌≤◌, ◌<◌, ◌≡◌, Bool, true, false, not, List, ◌∷◌, length, eqb}
+use Rattle.std.specs.Prelude.{ℕ, ◌+◌, ◌-◌, ◌≤◌, ◌<◌, ◌≡◌, Bool, true, false, not, List, ◌∷◌, length, eqb, Ok, Err}
 use borrow.Author.Tests.{le-leb, lt-leb, eq-eqb, ne_eqb}
 use Rattle.reply.specs.declared.Refusal.TheVariants.{NoThread, NotOpen, BadArgument}
 use Rattle.image.specs.declared.header.Header.{Header}
@@ -10,27 +10,26 @@ use Rattle.transient.specs.Layout.{open_epoch, note, next_uid_at, set_note, set_
 use Rattle.transient.specs.Store.{Table, table}
 use Rattle.transient.specs.Requires.{note-after, thread-of}
 use Rattle.table.specs.Fill.{filled_slot, taken}
-use Rattle.jobs.specs.declared.way.Way.TheVariants.{Open, Declined}
 use Rattle.jobs.specs.Job.{job, bad_job, made}
 use Rattle.jobs.specs.Way.{way_in}
 use Rattle.jobs.specs.Requires.{super-to, super-from, placing}
 
 -- ---- the way in
 module _ (z : Sizes) (tr : List ℕ) (thread : ℕ) (bad : Bool) where
-  pub way-thread : z.t ≤ thread → Declined NoThread ≡ way_in z tr thread bad
+  pub way-thread : z.t ≤ thread → Err NoThread ≡ way_in z tr thread bad
   unfolding way_in
   way-thread h = rw (le-leb z.t thread h)
 
   module _ {e : ℕ} (h : thread < z.t) (q : e ≡ open_epoch tr thread) where
-    pub way-none : e ≡ 0 → Declined NotOpen ≡ way_in z tr thread bad
+    pub way-none : e ≡ 0 → Err NotOpen ≡ way_in z tr thread bad
     unfolding way_in
     way-none d = rw (lt-leb z.t thread h, ← q, eq-eqb e 0 d)
 
-    pub way-bad : (e ≡ 0 → ⊥) → bad ≡ true → Declined BadArgument ≡ way_in z tr thread bad
+    pub way-bad : (e ≡ 0 → ⊥) → bad ≡ true → Err BadArgument ≡ way_in z tr thread bad
     unfolding way_in
     way-bad d b = rw (lt-leb z.t thread h, ← q, ne_eqb e 0 d, b)
 
-    pub way-fine : (e ≡ 0 → ⊥) → bad ≡ false → Open e ≡ way_in z tr thread bad
+    pub way-fine : (e ≡ 0 → ⊥) → bad ≡ false → Ok e ≡ way_in z tr thread bad
     unfolding way_in
     way-fine d b = rw (lt-leb z.t thread h, ← q, ne_eqb e 0 d, b)
 

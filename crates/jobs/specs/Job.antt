@@ -1,8 +1,6 @@
 -- A job as a call is given it, and how a first version, a later one or an anti-payload takes a slot.
-use Rattle.std.specs.Prelude.{ℕ, ◌+◌, ◌-◌, Bool, not, ◌||◌, List, ◌∷◌, length, eqb}
-use Rattle.search.specs.declared.Found.{Found}
+use Rattle.std.specs.Prelude.{ℕ, ◌+◌, ◌-◌, Bool, not, ◌||◌, List, ◌∷◌, length, eqb, Option, Ok}
 use Rattle.search.specs.First.{where_found}
-use Rattle.reply.specs.declared.Check.TheVariants.{Accepted}
 use Rattle.reply.specs.declared.Refusal.TheVariants.{Full}
 use Rattle.image.specs.declared.header.Header.{Header}
 use Rattle.image.specs.Layout.{fresh_header}
@@ -33,7 +31,7 @@ made z tb e s name value =
     (set_note next_uid_at (taken z tb.transient e s name) (note next_uid_at tb.transient + 1))
 
 -- 13 where no slot is found; else the slot f is filled, and the old one "retires .. in e"
-abbrev pub superseded : Found → Sizes → Table → ℕ → ℕ → Header → ℕ → List ℕ → Changed
+abbrev pub superseded : Option ℕ → Sizes → Table → ℕ → ℕ → Header → ℕ → List ℕ → Changed
 superseded found z tb e s h key value =
-    where_found found (λ f. changed Accepted (filled_slot z tb.working f h (key ∷ value)) (set_retired z (taken z tb.transient e f (name_of h.board key)) s e))
+    where_found found (λ f. changed (Ok tt) (filled_slot z tb.working f h (key ∷ value)) (set_retired z (taken z tb.transient e f (name_of h.board key)) s e))
     (refused Full tb)

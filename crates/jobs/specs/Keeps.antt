@@ -1,11 +1,7 @@
 -- 01: "Every refusal leaves both images and the notes unchanged", "Change calls never store into the lasting image": what is said
 -- of a call, and that it follows from the shapes that definitions are made of.
-use Rattle.std.specs.Prelude.{ℕ, ◌≡◌, refl, Bool, true, false, cond, List}
+use Rattle.std.specs.Prelude.{ℕ, ◌≡◌, refl, Bool, true, false, cond, List, Option, Some, None, Result, Ok, Err}
 use Rattle.std.proofs.Common.{arith}
-use Rattle.search.specs.declared.Found.{Found}
-use Rattle.search.specs.declared.Found.TheVariants.{At, Nothing}
-use Rattle.reply.specs.declared.Check.{Check}
-use Rattle.reply.specs.declared.Check.TheVariants.{Accepted, Refused}
 use Rattle.reply.specs.declared.Refusal.{Refusal}
 use Rattle.reply.specs.declared.Refusal.TheVariants.{Full}
 use Rattle.image.specs.declared.header.Header.{Header}
@@ -14,21 +10,20 @@ use Rattle.transient.specs.Store.{Store, Table, table_of, sizes_of, Outcome, aft
 use Rattle.transient.specs.Entry.{entry_check}
 use Rattle.transient.specs.Calls.{Changed, changed, refused, on_store}
 use Rattle.transient.specs.Passed.{in_store}
-use Rattle.jobs.specs.declared.way.Way.{Way}
-use Rattle.jobs.specs.declared.way.Way.TheVariants.{Open, Declined}
 use Rattle.jobs.specs.Job.{superseded}
 use Rattle.jobs.specs.Way.{by_way}
+use Rattle.reply.specs.Refusals.{Check}
 
 pub record Keeps (st : Store) (a : Outcome Check) : Type 0 where
-  pub when-refused : (r : Refusal) → a.reply ≡ Refused r → a.store ≡ st
+  pub when-refused : (r : Refusal) → a.reply ≡ Err r → a.store ≡ st
   pub persistent : a.store.persistent ≡ st.persistent
 
 -- of the part after refusals 1 and 2
 pub record KeepsInside (tb : Table) (c : Changed) : Type 0 where
-  pub when-refused : (r : Refusal) → c.reply ≡ Refused r → c.table ≡ tb
+  pub when-refused : (r : Refusal) → c.reply ≡ Err r → c.table ≡ tb
 
 -- ---- by shapes
-pub accepted-keeps : (tb : Table) (wk tr : List ℕ) → KeepsInside tb (changed Accepted wk tr)
+pub accepted-keeps : (tb : Table) (wk tr : List ℕ) → KeepsInside tb (changed (Ok tt) wk tr)
 accepted-keeps tb wk tr = record { when-refused = λ r e. let z : ◌≡◌ {A = ℕ} 0 1 = cc in absurd (omega arith) }
 
 pub refused-keeps : (tb : Table) (r : Refusal) → KeepsInside tb (refused r tb)
@@ -38,20 +33,20 @@ pub either-keeps : (tb : Table) (b : Bool) (c d : Changed) → KeepsInside tb c 
 either-keeps tb true c d x y = x
 either-keeps tb false c d x y = y
 
-pub way-keeps : (tb : Table) (k : Way) (next : ℕ → Changed) → ((e : ℕ) → KeepsInside tb (next e)) → KeepsInside tb (by_way k tb next)
-way-keeps tb (Open e) next x = x e
-way-keeps tb (Declined r) next x = refused-keeps tb r
+pub way-keeps : (tb : Table) (k : Result ℕ Refusal) (next : ℕ → Changed) → ((e : ℕ) → KeepsInside tb (next e)) → KeepsInside tb (by_way k tb next)
+way-keeps tb (Ok e) next x = x e
+way-keeps tb (Err r) next x = refused-keeps tb r
 
-pub super-keeps : (g : Found) (z : Sizes) (tb : Table) (e s : ℕ) (h : Header) (key : ℕ) (value : List ℕ) → KeepsInside tb (superseded g z tb e s h key value)
-super-keeps (At f) z tb e s h key value = accepted-keeps tb _ _
-super-keeps Nothing z tb e s h key value = refused-keeps tb Full
+pub super-keeps : (g : Option ℕ) (z : Sizes) (tb : Table) (e s : ℕ) (h : Header) (key : ℕ) (value : List ℕ) → KeepsInside tb (superseded g z tb e s h key value)
+super-keeps (Some f) z tb e s h key value = accepted-keeps tb _ _
+super-keeps None z tb e s h key value = refused-keeps tb Full
 
 pub ruleset shapes = (accepted-keeps, refused-keeps, either-keeps, way-keeps, super-keeps)
 
 -- ---- the whole call
-after-keeps : (k : Check) (st : Store) (c : Changed) → KeepsInside (table_of st) c → Keeps st (after_check k Refused st (in_store st c))
-after-keeps (Refused q) st c x = record { when-refused = λ r e. refl; persistent = refl }
-after-keeps Accepted st c x =
+after-keeps : (k : Check) (st : Store) (c : Changed) → KeepsInside (table_of st) c → Keeps st (after_check k Err st (in_store st c))
+after-keeps (Err q) st c x = record { when-refused = λ r e. refl; persistent = refl }
+after-keeps (Ok _) st c x =
     record {
       when-refused = λ r e. let y = x.when-refused r e in λ i. record { working = (y i).working; persistent = st.persistent; transient = (y i).transient };
       persistent = refl;

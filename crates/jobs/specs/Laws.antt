@@ -1,5 +1,5 @@
 -- What a way in says, and how a call goes on by it.
-use Rattle.std.specs.Prelude.{ℕ, ◌-◌, ◌<◌, ◌≡◌, refl, ◌≢◌, Bool, true, false, cond, List, length, leb, eqb}
+use Rattle.std.specs.Prelude.{ℕ, ◌-◌, ◌<◌, ◌≡◌, refl, ◌≢◌, Bool, true, false, cond, List, length, leb, eqb, Result, Ok, Err}
 use Rattle.std.proofs.Common.{sym, ◌∙◌, arith}
 use borrow.Author.Tests.{leb-false, eqb-true, eqb-false, not-false}
 use Rattle.search.specs.Bools.{or_left, or_right}
@@ -10,8 +10,6 @@ use Rattle.transient.specs.Layout.{open_epoch}
 use Rattle.transient.specs.Store.{Table}
 use Rattle.transient.specs.Calls.{Changed, refused}
 use Rattle.transient.specs.Requires.{Entered}
-use Rattle.jobs.specs.declared.way.Way.{Way}
-use Rattle.jobs.specs.declared.way.Way.TheVariants.{Open, Declined}
 use Rattle.jobs.specs.Job.{Job, job, bad_job}
 use Rattle.jobs.specs.Way.{way_in, by_way}
 use Rattle.jobs.specs.Requires.{Valued}
@@ -33,12 +31,12 @@ pub record Operating (z : Sizes) (tr : List ℕ) (thread : ℕ) (bad : Bool) (e 
   pub some : e ≢ 0
   pub fine : bad ≡ false
 
-pub way-operating : (z : Sizes) (tr : List ℕ) (thread : ℕ) (bad : Bool) {e : ℕ} → way_in z tr thread bad ≡ Open e → Operating z tr thread bad e
+pub way-operating : (z : Sizes) (tr : List ℕ) (thread : ℕ) (bad : Bool) {e : ℕ} → way_in z tr thread bad ≡ Ok e → Operating z tr thread bad e
 unfolding way_in
 way-operating z tr thread bad {e} h = go (leb z.t thread) (eqb (open_epoch tr thread) 0) bad refl refl refl h
   where
     go : (a b c : Bool) → leb z.t thread ≡ a → eqb (open_epoch tr thread) 0 ≡ b → bad ≡ c
-        → cond a (Declined NoThread) (cond b (Declined NotOpen) (cond c (Declined BadArgument) (Open (open_epoch tr thread)))) ≡ Open e → Operating z tr thread bad e
+        → cond a (Err NoThread) (cond b (Err NotOpen) (cond c (Err BadArgument) (Ok (open_epoch tr thread)))) ≡ Ok e → Operating z tr thread bad e
     go true b c p q r w = let x : ◌≡◌ {A = ℕ} 0 1 = cc in absurd (omega arith)
     go false true c p q r w = let x : ◌≡◌ {A = ℕ} 0 1 = cc in absurd (omega arith)
     go false false true p q r w = let x : ◌≡◌ {A = ℕ} 0 1 = cc in absurd (omega arith)
@@ -46,7 +44,7 @@ way-operating z tr thread bad {e} h = go (leb z.t thread) (eqb (open_epoch tr th
         let x : open_epoch tr thread ≡ e = cc in
         record { within = leb-false z.t thread p; epoch = x; some = rw x at (eqb-false (open_epoch tr thread) 0 q); fine = r }
 
-module _ (z : Sizes) (tr : List ℕ) (thread : ℕ) (b : Bool) {e : ℕ} {k : Way} (way : k ≡ way_in z tr thread b) (a : k ≡ Open e) where
+module _ (z : Sizes) (tr : List ℕ) (thread : ℕ) (b : Bool) {e : ℕ} {k : Result ℕ Refusal} (way : k ≡ way_in z tr thread b) (a : k ≡ Ok e) where
   pub way-within : thread < z.t
   way-within = (way-operating z tr thread b (sym way ∙ a)).within
 
@@ -55,11 +53,11 @@ module _ (z : Sizes) (tr : List ℕ) (thread : ℕ) (b : Bool) {e : ℕ} {k : Wa
       record { entered = y; words = job-words z (job key value) (sym be ∙ (way-operating z tr thread b (sym way ∙ a)).fine) }
 
 -- ---- a call goes on by its way
-module _ (z : Sizes) (tb : Table) (thread : ℕ) (bad : Bool) (next : ℕ → Changed) {k : Way} (way : k ≡ way_in z tb.transient thread bad) where
-  pub way-declined : {r : Refusal} → k ≡ Declined r → refused r tb ≡ by_way (way_in z tb.transient thread bad) tb next
+module _ (z : Sizes) (tb : Table) (thread : ℕ) (bad : Bool) (next : ℕ → Changed) {k : Result ℕ Refusal} (way : k ≡ way_in z tb.transient thread bad) where
+  pub way-declined : {r : Refusal} → k ≡ Err r → refused r tb ≡ by_way (way_in z tb.transient thread bad) tb next
   way-declined a = rw (← way, a)
 
-  pub way-open : {e : ℕ} {x : Changed} → k ≡ Open e → x ≡ next e → x ≡ by_way (way_in z tb.transient thread bad) tb next
+  pub way-open : {e : ℕ} {x : Changed} → k ≡ Ok e → x ≡ next e → x ≡ by_way (way_in z tb.transient thread bad) tb next
   way-open a p = rw (← way, a) p
 
 -- ---- a condition that refuses, or what follows

@@ -1,9 +1,8 @@
 -- What functions inside the calls on jobs require: a value of the right length, a slot reached, and one more slot found for it.
-use Rattle.std.specs.Prelude.{ℕ, ◌+◌, ◌-◌, ◌≤◌, ◌<◌, ◌≡◌, List, length}
+use Rattle.reply.specs.declared.Refusal.{Refusal}
+use Rattle.std.specs.Prelude.{ℕ, ◌+◌, ◌-◌, ◌≤◌, ◌<◌, ◌≡◌, List, length, Option, Some, Result, Ok}
 use Rattle.std.proofs.Common.{sym, ◌∙◌, arith, Fits}
 use Rattle.std.specs.Int.{w32}
-use Rattle.search.specs.declared.Found.{Found}
-use Rattle.search.specs.declared.Found.TheVariants.{At}
 use Rattle.image.specs.Layout.{most_number}
 use Rattle.image.specs.declared.name.Name.{Name}
 use Rattle.image.specs.Requires.{Slot, HeaderFits, slot, header-fits}
@@ -14,8 +13,6 @@ use Rattle.transient.specs.Requires.{Notes, NoteOf, Shaped, Entered, entered-hea
 use Rattle.table.specs.Find.{lookup, room}
 use Rattle.table.specs.Requires.{SlotValue}
 use Rattle.table.specs.Laws.{room-below, lookup-below}
-use Rattle.table.specs.declared.find.Lookup.{Lookup}
-use Rattle.table.specs.declared.find.Lookup.TheVariants.{Live}
 
 -- contents of at least a key
 pub record Wide (z : Sizes) : Type 0 where
@@ -95,7 +92,7 @@ pub super-from : {tr : List ℕ} {z : Sizes} {s f : ℕ} → Superseding tr z s 
 super-from y = record { notes = y.notes; within = y.from }
 
 -- a slot that the look-up gave
-module _ {wk tr : List ℕ} {z : Sizes} (name : Name) (e : ℕ) {s : ℕ} {k : Lookup} (c : k ≡ lookup z (table wk tr) name e) (a : k ≡ Live s) where
+module _ {wk tr : List ℕ} {z : Sizes} (name : Name) (e : ℕ) {s : ℕ} {k : Result (Option ℕ) Refusal} (c : k ≡ lookup z (table wk tr) name e) (a : k ≡ Ok (Some s)) where
   pub looked-reached : Entered wk tr z → Reached wk tr z s
   looked-reached y = record { entered = y; within = lookup-below z (table wk tr) name e s (sym c ∙ a) }
 
@@ -103,7 +100,7 @@ module _ {wk tr : List ℕ} {z : Sizes} (name : Name) (e : ℕ) {s : ℕ} {k : L
   looked-held y = record { reached = looked-reached y.entered; words = y.words }
 
 -- one that the search for room gave
-module _ {wk tr : List ℕ} {z : Sizes} (k : ℕ) {f : ℕ} {g : Found} (c : g ≡ room z (table wk tr) k) (a : g ≡ At f) where
+module _ {wk tr : List ℕ} {z : Sizes} (k : ℕ) {f : ℕ} {g : Option ℕ} (c : g ≡ room z (table wk tr) k) (a : g ≡ Some f) where
   pub room-reached : Entered wk tr z → Reached wk tr z f
   room-reached y = record { entered = y; within = room-below z (table wk tr) k f y.last (sym c ∙ a) }
 

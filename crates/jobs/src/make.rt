@@ -9,6 +9,7 @@ use image::name::Name;
 use transient::sizes::Sizes;
 
 // Slot s holds an ALLOC of epoch e, with the next uid.
+#[tactic(auto, using(crate::specs::Exits::laws))]
 pub fn make_at(
     working: &mut [u32],
     transient: &mut [u32],

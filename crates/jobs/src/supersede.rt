@@ -8,6 +8,7 @@ use image::name::Name;
 use transient::sizes::Sizes;
 
 // Slot f is taken in e, for a name, and slot s retired in it.
+#[tactic(auto, using(crate::specs::Exits::laws))]
 pub fn note_superseded(transient: &mut [u32], z: Sizes, e: u32, s: usize, f: usize, name: Name)
     requires { Superseding transient.old z s f }
     ensures { transient.new ≡ set_retired z (taken z transient.old e f name) s e }

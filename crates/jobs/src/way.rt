@@ -8,32 +8,27 @@ ghost use Rattle.jobs.specs.Requires.{Wide};
 use reply::Refusal;
 use transient::sizes::Sizes;
 
-// The caller's open epoch, or why the call declines.
-#[derive(Clone, Copy)]
-pub enum Way {
-    Open(u32),
-    Declined(Refusal),
-}
-
 // Refusals 5 and 7, and 8 where the arguments are bad.
-pub fn way_in(transient: &[u32], z: Sizes, thread: usize, bad: bool) -> Way
+#[tactic(auto, using(crate::specs::Exits::laws))]
+pub fn way_in(transient: &[u32], z: Sizes, thread: usize, bad: bool) -> Result<u32, Refusal>
     requires { Notes transient.now z }
     ensures { result ≡ way_in z transient.now thread bad }
 {
     if z.t <= thread {
-        return Way::Declined(Refusal::NoThread);
+        return Err(Refusal::NoThread);
     }
     let e = transient::notes::open_epoch(transient, z, thread);
     if e == 0 {
-        return Way::Declined(Refusal::NotOpen);
+        return Err(Refusal::NotOpen);
     }
     if bad {
-        return Way::Declined(Refusal::BadArgument);
+        return Err(Refusal::BadArgument);
     }
-    Way::Open(e)
+    Ok(e)
 }
 
 // Is a key or a value's length wrong?
+#[tactic(auto, using(crate::specs::Exits::laws))]
 pub fn bad_job(z: Sizes, key: u32, value: &[u32]) -> bool
     requires { Wide z }
     ensures { result ≡ bad_job z (job key value.now) }

@@ -1,156 +1,103 @@
 // The image lister (01): reads an image from standard input and prints its clock and its survivors.
 #![tactic(auto)]
 
-ghost use Rattle.std.specs.Prelude.{◌≡◌, ◌+◌, ◌*◌, ◌≤◌, length};
-ghost use Rattle.text.specs.Putting.{Appended, Spelt};
-ghost use Rattle.reply.specs.declared.Check.TheVariants.{Accepted};
+ghost use Rattle.std.specs.Prelude.{◌≡◌, ◌+◌, ◌*◌, ◌≤◌, ◌++◌, length};
 ghost use Rattle.image.specs.Layout.{header, contents};
 ghost use Rattle.image.specs.Requires.{Slot};
-ghost use Rattle.survival.specs.Requires.{SlotMarked, AllMarked};
-ghost use Rattle.acceptance.specs.Accept.{image_check};
-ghost use Rattle.acceptance.specs.Checking.{SlotsFine};
+ghost use Rattle.survival.specs.Requires.{AllMarked};
 ghost use Rattle.lister.specs.Printed.{head_line, slot_line, slot_lines, image_listing, printed_listing};
-ghost use Rattle.lister.specs.Requires.{head_figures, slot_figures, line_end, slot_text, listing};
+ghost use Rattle.lister.specs.Requires.{line_end};
+ghost use Rattle.lister.specs.Exits.{listing-printed};
 
-use console::Input;
+use console::Report;
 use image::header::Header;
+use text::Text;
 
-fn put_figures(out: &mut [u8], clock: u32, survivors: usize) -> usize
-    requires { 262208 ≤ length out.old }
-    ensures { Appended out.old 0 (head_figures clock survivors) out.new result }
+#[tactic(auto, using(crate::specs::Exits::laws))]
+fn push_head<const N: usize>(out: &mut Text<N>, clock: u32, survivors: usize)
+    requires { length out.old + 64 ≤ N }
+    ensures value { out.new ≡ out.old ++ head_line clock survivors }
+    ensures len { length out.new ≤ length out.old + 64 }
 {
-    let k = text::put_figure(out, 0, b"clock ", text::wide(clock));
-    text::put_figure(out, k, b" survivors ", survivors as u64)
-}
-
-fn put_head(out: &mut [u8], clock: u32, survivors: usize) -> usize
-    requires { 262208 ≤ length out.old }
-    ensures { Appended out.old 0 (head_line clock survivors) out.new result }
-{
-    let k = put_figures(out, clock, survivors);
-    text::put(out, k, b"\n")
-}
-
-// Slot, key and value words.
-fn put_words(out: &mut [u8], at: usize, img: &[u32], n: usize, w: usize, s: usize) -> usize
-    requires slot { Slot img.now n w s }
-    requires at_in_bounds { at + 256 ≤ length out.old }
-    ensures { Appended out.old at (slot_figures s (contents img.now n w s)) out.new result }
-{
-    let b = image::contents::contents_at(n, w, s);
-    let e = b + w;
-    let k = text::put_number(out, at, s as u64);
-    text::put_spaced(out, k, &img[b..e])
+    out.push_figure(b"clock ", u64::from(clock));
+    out.push_figure(b" survivors ", survivors as u64);
+    out.push(b"\n");
 }
 
 // The end of a line, which tells an entry of the queue from a job.
-fn put_end(out: &mut [u8], at: usize, board: u32) -> usize
-    requires { at + 7 ≤ length out.old }
-    ensures { Appended out.old at (line_end board) out.new result }
+#[tactic(auto, using(crate::specs::Exits::slots))]
+fn push_end<const N: usize>(out: &mut Text<N>, board: u32)
+    requires { length out.old + 7 ≤ N }
+    ensures value { out.new ≡ out.old ++ line_end board }
+    ensures len { length out.new ≤ length out.old + 7 }
 {
     if board == Header::QUEUE {
-        return text::put(out, at, b" queue\n");
+        out.push(b" queue\n");
+    } else {
+        out.push(b"\n");
     }
-    text::put(out, at, b"\n")
 }
 
-fn put_slot(out: &mut [u8], at: usize, img: &[u32], n: usize, w: usize, s: usize) -> usize
+// Slot, key and value words.
+#[tactic(auto, using(crate::specs::Exits::slots))]
+fn push_slot<const N: usize>(out: &mut Text<N>, img: &[u32], n: usize, w: usize, s: usize)
     requires slot { Slot img.now n w s }
-    requires at_in_bounds { at + 256 ≤ length out.old }
-    ensures { Appended out.old at (slot_line (header img.now s).board s (contents img.now n w s)) out.new result }
+    requires in_bounds { length out.old + 256 ≤ N }
+    ensures value { out.new ≡ out.old ++ slot_line (header img.now s).board s (contents img.now n w s) }
+    ensures len { length out.new ≤ length out.old + 256 }
 {
-    let k = put_words(out, at, img, n, w, s);
-    put_end(out, k, image::header::board_at(img, n, s))
+    let start = image::contents::contents_at(n, w, s);
+    let end = start + w;
+    out.push_number(s as u64);
+    out.push_spaced(&img[start..end]);
+    push_end(out, image::header::board_at(img, n, s));
 }
 
-// The line of a slot that survives; nothing of any other.
-fn put_survivor(
-    out: &mut [u8],
-    at: usize,
+// The lines of the slots that survive.
+#[tactic(auto, using(crate::specs::Exits::slots))]
+fn push_survivors<const N: usize>(
+    out: &mut Text<N>,
     img: &[u32],
     flags: &[bool; 1024],
     n: usize,
     w: usize,
-    s: usize,
-) -> usize
-    requires slot_marked { SlotMarked img.now n w s flags.now }
-    requires at_in_bounds { at + 256 ≤ length out.old }
-    ensures { Appended out.old at (slot_text img.now n w s) out.new result }
-{
-    if flags[s] {
-        return put_slot(out, at, img, n, w, s);
-    }
-    at
-}
-
-fn put_survivors(
-    out: &mut [u8],
-    at: usize,
-    img: &[u32],
-    flags: &[bool; 1024],
-    n: usize,
-    w: usize,
-) -> usize
+)
     requires all_marked { AllMarked img.now n w flags.now }
-    requires n_in_bounds { at + 256 * n ≤ length out.old }
-    ensures { Appended out.old at (slot_lines img.now n w n) out.new result }
+    requires in_bounds { length out.old + 256 * n ≤ N }
+    ensures { out.new ≡ out.old ++ slot_lines img.now n w n }
 {
-    let mut k = at;
-    let mut s = 0;
-    while s < n {
-        k = put_survivor(out, k, img, flags, n, w, s);
-        s += 1;
-    }
-    k
-}
-
-fn list_sized(out: &mut [u8], img: &[u32], n: usize, w: usize) -> usize
-    requires slots_fine { SlotsFine img.now n w }
-    requires in_bounds { 262208 ≤ length out.old }
-    ensures { Appended out.old 0 (listing img.now n w) out.new result }
-{
-    let flags = acceptance::survivors(img, n, w);
-    let survivors = survival::survivor_count(img, &flags, n);
-    let k = put_head(out, image::shape::clock(img), survivors);
-    put_survivors(out, k, img, &flags, n, w)
-}
-
-// The listing of an image that recovery accepts.
-fn list_image(out: &mut [u8], img: &[u32]) -> usize
-    requires img_value { image_check img.now ≡ Accepted }
-    requires in_bounds { 262208 ≤ length out.old }
-    ensures { Spelt out.old (image_listing img.now) out.new result }
-{
-    let n = image::shape::wide(img[0]);
-    let w = image::shape::wide(img[1]);
-    list_sized(out, img, n, w)
-}
-
-// What is printed of the bytes that were read.
-fn list_bytes(out: &mut [u8], bytes: &[u8], words: &mut [u32]) -> usize
-    requires words_len { length words.old ≡ 13315 }
-    requires in_bounds { 262208 ≤ length out.old }
-    ensures { Spelt out.old (printed_listing bytes.now) out.new result }
-{
-    match console::judge(bytes, words) {
-        Input::Refused(r) => console::refused_line(out, r),
-        Input::Image(k) => list_image(out, &words[..k]),
+    for s in 0..n {
+        let survives = flags[s];
+        if survives {
+            push_slot(out, img, n, w, s);
+        }
     }
 }
 
-fn run(bytes: &mut [u8], words: &mut [u32], out: &mut [u8])
-    requires words_len { length words.old ≡ 13315 }
-    requires out_len { length out.old ≡ 262208 }
-{
-    let n = console::read_bytes(bytes);
-    let k = list_bytes(out, &bytes[..n], words);
-    io::write_all(console::STDOUT, &out[..k]);
+// The listing: a first line of 64 bytes, and 1,024 lines of 256 at most.
+struct Listing;
+
+impl<const N: usize> Report<N> for Listing {
+    ghost printed = { printed_listing };
+
+    ghost text = { image_listing };
+
+    ghost most = { 262208 };
+
+    #[tactic(auto, using(crate::specs::Exits::laws))]
+    fn push(out: &mut Text<N>, img: &[u32]) {
+        let n = img[0] as usize;
+        let w = img[1] as usize;
+        let flags = acceptance::survivors(img, n, w);
+        let survivors = survival::survivor_count(img, &flags, n);
+        push_head(out, image::shape::clock(img), survivors);
+        push_survivors(out, img, &flags, n, w);
+    }
+
+    ghost prints = { listing-printed };
 }
 
-// The text has room for a first line of 64 bytes and 1,024 lines of 256.
-fn main() {
-    let mut bytes = [0u8; 53260];
-    let mut words = [0u32; 13315];
-    let mut out = [0u8; 262208];
-    run(&mut bytes, &mut words, &mut out);
+fn main(rt: HostRuntime) {
+    let mut out = Text::<262208>::new();
+    console::run::<262208, Listing, _, _>(&mut rt.stdin(), &mut rt.stdout(), &mut out);
 }

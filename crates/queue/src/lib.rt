@@ -1,18 +1,16 @@
 // The hand-over queue (02, No. 3): what its calls look up in the working table.
-#![tactic(auto)]
+#![tactic(auto, using(crate::specs::Exits::laws))]
 
 ghost use Rattle.std.specs.Prelude.{◌≡◌};
-ghost use Rattle.search.specs.First.{found};
 ghost use Rattle.search.specs.Some.{any_of};
 ghost use Rattle.image.specs.Requires.{Slot, HeaderFits};
 ghost use Rattle.transient.specs.Store.{table};
 ghost use Rattle.transient.specs.Requires.{Shaped, ShapedSlot};
-ghost use Rattle.table.specs.Requires.{looked_up};
 ghost use Rattle.queue.specs.Front.{entry_newer_at, entry_at, front_lookup};
-ghost use Rattle.queue.specs.Requires.{nearer_at, stops_at, next_stop, best_at, Walks};
+ghost use Rattle.queue.specs.Requires.{nearer_at, stops_at, next_stop, best_at, slot_of, Walks};
 
 use image::header::Header;
-use table::find::Lookup;
+use reply::Refusal;
 use transient::sizes::Sizes;
 
 // The board is looked at first, as most slots hold a job or nothing; then the epoch, as most entries are not newer. With no
@@ -27,7 +25,7 @@ fn newer_at(working: &[u32], n: usize, e: u32, s: usize) -> bool
             if e == 0 {
                 return false;
             }
-            image::header::filled(h)
+            h.is_filled()
         } else {
             false
         }
@@ -43,7 +41,7 @@ fn entry_at(working: &[u32], transient: &[u32], z: Sizes, s: usize) -> bool
 {
     let held = image::header::header_at(working, z.n, s);
     if held.board == Header::QUEUE {
-        if image::header::payload(held) {
+        if held.is_payload() {
             transient::notes::retired_in(transient, z, s) == 0
         } else {
             false
@@ -58,17 +56,15 @@ pub fn any_newer(working: &[u32], transient: &[u32], z: Sizes, e: u32) -> bool
     requires { Shaped working.now transient.now z }
     ensures { result ≡ any_of (entry_newer_at working.now e) z.n }
 {
-    let mut s = 0;
-    while s < z.n {
+    for s in 0..z.n {
         if newer_at(working, z.n, e, s) {
             return true;
         }
-        s += 1;
     }
     false
 }
 
-// The front so far: its slot, n for none, and its order number.
+// The front so far: its slot and its order number.
 #[derive(Clone, Copy)]
 pub struct Best {
     pub slot: usize,
@@ -76,12 +72,12 @@ pub struct Best {
 }
 
 // An entry in front of the best so far? The number is looked at first, as most entries stand further back.
-fn nearer_at(working: &[u32], transient: &[u32], z: Sizes, best: Best, s: usize) -> bool
+fn nearer_at(working: &[u32], transient: &[u32], z: Sizes, best: Option<Best>, s: usize) -> bool
     requires { ShapedSlot working.now transient.now z s }
     ensures { result ≡ nearer_at z (table working.now transient.now) best s }
 {
-    if best.slot < z.n {
-        if best.order <= image::contents::key_at(working, z.n, z.w, s) {
+    if let Some(b) = best {
+        if b.order <= image::contents::key_at(working, z.n, z.w, s) {
             return false;
         }
     }
@@ -89,7 +85,14 @@ fn nearer_at(working: &[u32], transient: &[u32], z: Sizes, best: Best, s: usize)
 }
 
 // Does a walk up the table stop here: at an entry of a later epoch, or at one in front of the best so far?
-fn stops_at(working: &[u32], transient: &[u32], z: Sizes, e: u32, best: Best, s: usize) -> bool
+fn stops_at(
+    working: &[u32],
+    transient: &[u32],
+    z: Sizes,
+    e: u32,
+    best: Option<Best>,
+    s: usize,
+) -> bool
     requires { ShapedSlot working.now transient.now z s }
     ensures { result ≡ stops_at z (table working.now transient.now) e best s }
 {
@@ -102,19 +105,24 @@ fn stops_at(working: &[u32], transient: &[u32], z: Sizes, e: u32, best: Best, s:
     nearer_at(working, transient, z, best, s)
 }
 
-// Where it stops, from a slot on, or n.
-fn next_stop(working: &[u32], transient: &[u32], z: Sizes, e: u32, best: Best, from: usize) -> usize
+// Where it stops first, from a slot on.
+fn next_stop(
+    working: &[u32],
+    transient: &[u32],
+    z: Sizes,
+    e: u32,
+    best: Option<Best>,
+    from: usize,
+) -> Option<usize>
     requires { Walks working.now transient.now z from }
     ensures { result ≡ next_stop z (table working.now transient.now) e best from }
 {
-    let mut s = from;
-    while s < z.n {
+    for s in from..z.n {
         if stops_at(working, transient, z, e, best, s) {
-            return s;
+            return Some(s);
         }
-        s += 1;
     }
-    s
+    None
 }
 
 fn best_at(working: &[u32], z: Sizes, s: usize) -> Best
@@ -127,36 +135,35 @@ fn best_at(working: &[u32], z: Sizes, s: usize) -> Best
     }
 }
 
-fn looked_up(z: Sizes, best: Best) -> Lookup
-    ensures { result ≡ looked_up (found z.n best.slot) }
+#[tactic(auto, using(crate::specs::Exits::walks))]
+fn slot_of(best: Option<Best>) -> Option<usize>
+    ensures { result ≡ slot_of best }
 {
-    if best.slot < z.n {
-        Lookup::Live(best.slot)
-    } else {
-        Lookup::Absent
+    match best {
+        Some(b) => Some(b.slot),
+        None => None,
     }
 }
 
 // Refusal 9, and the live entry with the smallest order number: one walk up, from each entry to the next one in front of it.
-pub fn look_up_front(working: &[u32], transient: &[u32], z: Sizes, e: u32) -> Lookup
+#[tactic(auto, using(crate::specs::Exits::walks))]
+pub fn look_up_front(
+    working: &[u32],
+    transient: &[u32],
+    z: Sizes,
+    e: u32,
+) -> Result<Option<usize>, Refusal>
     requires { Shaped working.now transient.now z }
     ensures { result ≡ front_lookup z (table working.now transient.now) e }
 {
-    let mut best = Best {
-        slot: z.n,
-        order: 0,
-    };
+    let mut best = None;
     let mut from = 0;
-    while from < z.n {
-        let s = next_stop(working, transient, z, e, best, from);
-        if z.n <= s {
-            return looked_up(z, best);
-        }
+    while let Some(s) = next_stop(working, transient, z, e, best, from) {
         if newer_at(working, z.n, e, s) {
-            return Lookup::Later;
+            return Err(Refusal::Newer);
         }
-        best = best_at(working, z, s);
+        best = Some(best_at(working, z, s));
         from = s + 1;
     }
-    looked_up(z, best)
+    Ok(slot_of(best))
 }

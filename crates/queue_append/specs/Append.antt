@@ -1,6 +1,6 @@
 -- 02, No. 3: "append at the back". "The key is an order number given by the store and returned by append, 1 first and one more at
 -- each append".
-use Rattle.std.specs.Prelude.{ℕ, ◌+◌, ◌-◌, not, cond, ◌||◌, List, length, ltb, eqb}
+use Rattle.std.specs.Prelude.{ℕ, ◌+◌, ◌-◌, not, cond, ◌||◌, List, length, ltb, eqb, Result, Ok, Err}
 use Rattle.search.specs.First.{where_found}
 use Rattle.search.specs.Some.{any_of}
 use Rattle.reply.specs.declared.Refusal.TheVariants.{Newer, NoUid, Full}
@@ -15,8 +15,7 @@ use Rattle.table.specs.Find.{room}
 use Rattle.jobs.specs.Job.{made}
 use Rattle.jobs.specs.Way.{way_in, by_way}
 use Rattle.queue.specs.Front.{entry_newer_at}
-use Rattle.queue_append.specs.declared.Append.{Append}
-use Rattle.queue_append.specs.declared.Append.TheVariants.{Given, Declined}
+use Rattle.reply.specs.declared.Refusal.{Refusal}
 
 -- 9; 12: "append gives 12", "judge the next order number as the next uid"; 13: "Append needs two free slots"; else an entry of the
 -- next order number, which goes up by one
@@ -30,12 +29,12 @@ append_open z tb value e =
     (refused Full tb)))
 
 -- "8 for the value length"; the reply is the number that the entry was given
-unfoldable pub append_entry : Store → ℕ → List ℕ → Outcome Append
+unfoldable pub append_entry : Store → ℕ → List ℕ → Outcome (Result ℕ Refusal)
 append_entry st thread value =
     let o = on_store st (λ z tb. by_way (way_in z tb.transient thread (not (eqb (length value) (z.w - 1)))) tb (append_open z tb value)) in
-    record { reply = by_check o.reply Declined (Given (note next_order_at st.transient)); store = o.store }
+    record { reply = by_check o.reply Err (Ok (note next_order_at st.transient)); store = o.store }
 
 -- for C: the order number, or 2^32 plus the refusal
-abbrev pub append_number : Append → ℕ
-append_number (Given order) = order
-append_number (Declined r) = declined_number r
+abbrev pub append_number : Result ℕ Refusal → ℕ
+append_number (Ok order) = order
+append_number (Err r) = declined_number r

@@ -1,12 +1,8 @@
 -- The ways out of this crate's functions.
-use Rattle.std.specs.Prelude.{ℕ, ◌+◌, ◌-◌, ◌≤◌, ◌<◌, ◌≡◌, refl, Bool, true, false, not, List, length, ltb, eqb}
+use Rattle.std.specs.Prelude.{ℕ, ◌+◌, ◌-◌, ◌≤◌, ◌<◌, ◌≡◌, refl, Bool, true, false, not, List, length, ltb, eqb, Option, Some, None, Result, Ok, Err}
 use Rattle.std.proofs.Common.{sym, ap, ◌∙◌}
 use borrow.Author.Tests.{lt-ltb, le-ltb, eqb-true, not-false}
 use Rattle.search.specs.Some.{any_of}
-use Rattle.search.specs.declared.Found.{Found}
-use Rattle.search.specs.declared.Found.TheVariants.{At, Nothing}
-use Rattle.reply.specs.declared.Check.{Check}
-use Rattle.reply.specs.declared.Check.TheVariants.{Accepted, Refused}
 use Rattle.reply.specs.declared.Refusal.{Refusal}
 use Rattle.reply.specs.declared.Refusal.TheVariants.{Newer, NoUid, Full}
 use Rattle.image.specs.declared.name.Name.{Name}
@@ -20,18 +16,15 @@ use Rattle.transient.specs.Calls.{Changed, changed, refused, accepted}
 use Rattle.transient.specs.Requires.{Entered, entered-head, entered-notes}
 use Rattle.transient.specs.Passed.{on-declined, passing}
 use Rattle.table.specs.Find.{room}
-use Rattle.jobs.specs.declared.way.Way.{Way}
-use Rattle.jobs.specs.declared.way.Way.TheVariants.{Open, Declined as Declines}
 use Rattle.jobs.specs.Job.{made}
 use Rattle.jobs.specs.Way.{way_in}
 use Rattle.jobs.specs.Requires.{Valued, entered-wide, valued-entered, valued-shaped}
 use Rattle.jobs.specs.Laws.{way-operating, way-declined, way-open}
 use Rattle.queue.specs.Front.{entry_newer_at}
-use Rattle.queue_append.specs.declared.Append.{Append}
-use Rattle.queue_append.specs.declared.Append.TheVariants.{Given, Declined}
 use Rattle.queue_append.specs.Append.{append_open, append_entry}
 use Rattle.queue_append.specs.Stages.{bad_value, no_number, append_at, append_in, append-open-is, append_sized, Appended, given, numbering, append-entry-is, append_given}
 use Rattle.queue_append.specs.Requires.{ready_of, ready-entered, valued-head, ready-numbered, numbered-placed, numbered-head, numbered-after, numbered-order}
+use Rattle.reply.specs.Refusals.{Check}
 
 pub bad-value : (z : Sizes) (value : List ℕ) → not (eqb (length value) (z.w - 1)) ≡ bad_value z value
 unfolding bad_value
@@ -49,18 +42,18 @@ module _ (tr : List ℕ) {u : ℕ} (ue : u ≡ note next_uid_at tr) where
 
 module _ (z : Sizes) (tb : Table) (e : ℕ) (value : List ℕ) where
   pub append-done : (s : ℕ) {o : ℕ} {name : Name} {wk a b : List ℕ} → o ≡ note next_order_at tb.transient → name ≡ entry_name o
-      → table wk a ≡ made z tb e s name value → b ≡ set_note next_order_at a (o + 1) → changed Accepted wk b ≡ append_at z tb e s value
+      → table wk a ≡ made z tb e s name value → b ≡ set_note next_order_at a (o + 1) → changed (Ok tt) wk b ≡ append_at z tb e s value
   unfolding append_at
   append-done s p q h y =
       rw (y, p)
       (ap (λ (x : Table). accepted (table x.working (set_note next_order_at x.transient (note next_order_at tb.transient + 1)))) (rw (q, p) at h))
 
   -- 13
-  module _ {f : Found} (fr : f ≡ room z tb 2) where
-    pub append-full : f ≡ Nothing → refused Full tb ≡ append_in (room z tb 2) z tb e value
+  module _ {f : Option ℕ} (fr : f ≡ room z tb 2) where
+    pub append-full : f ≡ None → refused Full tb ≡ append_in (room z tb 2) z tb e value
     append-full a = rw (← fr, a)
 
-    pub append-placed : {s : ℕ} {x : Changed} → f ≡ At s → x ≡ append_at z tb e s value → x ≡ append_in (room z tb 2) z tb e value
+    pub append-placed : {s : ℕ} {x : Changed} → f ≡ Some s → x ≡ append_at z tb e s value → x ≡ append_in (room z tb 2) z tb e value
     append-placed a p = rw (← fr, a) p
 
   -- 9 and 12
@@ -76,16 +69,16 @@ module _ (z : Sizes) (tb : Table) (e : ℕ) (value : List ℕ) where
       append-room t p = rw (append-open-is z tb value e, ← nw, f, ← un, t) p
 
 -- ---- 5, 7 and 8
-module _ (z : Sizes) (tb : Table) (thread : ℕ) (value : List ℕ) (b : Bool) {k : Way} (be : b ≡ bad_value z value) (way : k ≡ way_in z tb.transient thread b) where
-  pub append-declined : {r : Refusal} → k ≡ Declines r → refused r tb ≡ append_sized thread value z tb
+module _ (z : Sizes) (tb : Table) (thread : ℕ) (value : List ℕ) (b : Bool) {k : Result ℕ Refusal} (be : b ≡ bad_value z value) (way : k ≡ way_in z tb.transient thread b) where
+  pub append-declined : {r : Refusal} → k ≡ Err r → refused r tb ≡ append_sized thread value z tb
   unfolding append_sized
   append-declined a = way-declined z tb thread (bad_value z value) (append_open z tb value) (rw be at way) a
 
-  pub append-goes : {e : ℕ} {x : Changed} → k ≡ Open e → x ≡ append_open z tb value e → x ≡ append_sized thread value z tb
+  pub append-goes : {e : ℕ} {x : Changed} → k ≡ Ok e → x ≡ append_open z tb value e → x ≡ append_sized thread value z tb
   unfolding append_sized
   append-goes a p = way-open z tb thread (bad_value z value) (append_open z tb value) (rw be at way) a p
 
-pub append-valued : (z : Sizes) (wk tr : List ℕ) (thread : ℕ) (value : List ℕ) (b : Bool) {e : ℕ} {k : Way} → b ≡ bad_value z value → k ≡ way_in z tr thread b → k ≡ Open e
+pub append-valued : (z : Sizes) (wk tr : List ℕ) (thread : ℕ) (value : List ℕ) (b : Bool) {e : ℕ} {k : Result ℕ Refusal} → b ≡ bad_value z value → k ≡ way_in z tr thread b → k ≡ Ok e
     → Entered wk tr z → Valued wk tr z value
 unfolding bad_value
 append-valued z wk tr thread value b be way a y =
@@ -97,20 +90,20 @@ append-sizes tb thread value e i h = rw (i, e) at h
 
 -- ---- the reply
 module _ (tb : Table) (thread : ℕ) (value : List ℕ) {o : ℕ} {k : Check} {wk tr : List ℕ} (oe : o ≡ note next_order_at tb.transient) (h : changed k wk tr ≡ append_sized thread value (sizes_of tb) tb) where
-  pub given-order : k ≡ Accepted → given (Given o) wk tr ≡ append_given thread value tb
+  pub given-order : k ≡ Ok tt → given (Ok o) wk tr ≡ append_given thread value tb
   unfolding append_given
   given-order a = rw (← h, a, oe)
 
-  pub given-none : {r : Refusal} → k ≡ Refused r → given (Declined r) wk tr ≡ append_given thread value tb
+  pub given-none : {r : Refusal} → k ≡ Err r → given (Err r) wk tr ≡ append_given thread value tb
   unfolding append_given
   given-none a = rw (← h, a)
 
 -- 1 and 2
 module _ (wk l tr : List ℕ) (thread : ℕ) (value : List ℕ) {k : Check} (c : k ≡ entry_check (store wk l tr)) where
-  pub append-refused : {r : Refusal} → k ≡ Refused r → outcome (Declined r) wk l tr ≡ append_entry (store wk l tr) thread value
+  pub append-refused : {r : Refusal} → k ≡ Err r → outcome (Err r) wk l tr ≡ append_entry (store wk l tr) thread value
   append-refused a = rw (append-entry-is (store wk l tr) thread value) (ap (numbering (note next_order_at tr)) (on-declined wk l tr c (append_sized thread value) a))
 
-  pub append-enters : {q : Append} {wk' tr' : List ℕ} → k ≡ Accepted → given q wk' tr' ≡ append_given thread value (table wk tr) → outcome q wk' l tr' ≡ append_entry (store wk l tr) thread value
+  pub append-enters : {q : Result ℕ Refusal} {wk' tr' : List ℕ} → k ≡ Ok tt → given q wk' tr' ≡ append_given thread value (table wk tr) → outcome q wk' l tr' ≡ append_entry (store wk l tr) thread value
   unfolding append_given
   append-enters a h = rw (append-entry-is (store wk l tr) thread value, ← c, a) (ap (λ (x : Appended). outcome x.reply x.table.working l x.table.transient) h)
 

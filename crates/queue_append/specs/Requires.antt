@@ -1,10 +1,8 @@
 -- What functions inside append require: a value with a uid and an order number to give, and the slot that is to hold it.
-use Rattle.std.specs.Prelude.{ℕ, ◌+◌, ◌≤◌, ◌≡◌, Bool, false, ◌||◌, List, length, ltb}
+use Rattle.std.specs.Prelude.{ℕ, ◌+◌, ◌≤◌, ◌≡◌, Bool, false, ◌||◌, List, length, ltb, Option, Some}
 use Rattle.std.proofs.Common.{sym, ◌∙◌, ltb-false, arith, Fits}
 use Rattle.std.specs.Int.{w32}
 use Rattle.search.specs.Bools.{or_left, or_right}
-use Rattle.search.specs.declared.Found.{Found}
-use Rattle.search.specs.declared.Found.TheVariants.{At}
 use Rattle.image.specs.Layout.{most_number}
 use Rattle.transient.specs.declared.sizes.Sizes.{Sizes}
 use Rattle.transient.specs.Layout.{head_words, note, next_uid_at, next_order_at}
@@ -42,7 +40,7 @@ ready-entered y = y.valued.entered
 pub valued-head : {wk tr value : List ℕ} {z : Sizes} → Valued wk tr z value → head_words ≤ length tr
 valued-head y = entered-head y.entered
 
-pub ready-numbered : {wk tr value : List ℕ} {z : Sizes} {s : ℕ} {g : Found} (k : ℕ) → Ready wk tr z value → g ≡ room z (table wk tr) k → g ≡ At s → Numbered wk tr z s value
+pub ready-numbered : {wk tr value : List ℕ} {z : Sizes} {s : ℕ} {g : Option ℕ} (k : ℕ) → Ready wk tr z value → g ≡ room z (table wk tr) k → g ≡ Some s → Numbered wk tr z s value
 ready-numbered k y c a =
     record {
       placed = record { held = record { reached = room-reached k c a y.valued.entered; words = y.valued.words }; uid-top = y.uid-top };

@@ -1,5 +1,5 @@
 // Append: an entry at the back of the queue, under the next order number.
-#![tactic(auto)]
+#![tactic(auto, using(crate::specs::Exits::laws))]
 
 ghost use Rattle.std.specs.Prelude.{◌≡◌, ◌≤◌, length};
 ghost use Rattle.transient.specs.Layout.{head_words};
@@ -13,17 +13,8 @@ ghost use Rattle.queue_append.specs.Stages.{bad_value, no_number, append_at, app
 ghost use Rattle.queue_append.specs.Requires.{Ready, Numbered};
 
 use image::name::Name;
-use jobs::way::Way;
-use reply::{Check, Refusal};
-use search::Found;
+use reply::Refusal;
 use transient::sizes::Sizes;
-
-// The order number that the entry was given, or why there is none.
-#[derive(Clone, Copy)]
-pub enum Append {
-    Given(u32),
-    Declined(Refusal),
-}
 
 // Is the value's length wrong?
 fn bad_value(z: Sizes, value: &[u32]) -> bool
@@ -51,14 +42,14 @@ fn append_at(
     e: u32,
     s: usize,
     value: &[u32],
-) -> Check
+) -> Result<(), Refusal>
     requires { Numbered working.old transient.old z s value.now }
     ensures { changed result working.new transient.new ≡ append_at z (table working.old transient.old) e s value.now }
 {
     let order = transient::notes::next_order(transient);
     jobs::make::make_at(working, transient, z, e, s, Name::entry(order), value);
     transient::notes::set_next_order(transient, order + 1);
-    Check::Accepted
+    Ok(())
 }
 
 fn append_in_room(
@@ -67,25 +58,29 @@ fn append_in_room(
     z: Sizes,
     e: u32,
     value: &[u32],
-) -> Check
+) -> Result<(), Refusal>
     requires { Ready working.old transient.old z value.now }
     ensures { changed result working.new transient.new ≡ append_in (room z (table working.old transient.old) 2) z (table working.old transient.old) e value.now }
 {
-    match table::find::room_for_two(working, transient, z) {
-        Found::At(s) => append_at(working, transient, z, e, s, value),
-        Found::Nothing => Check::Refused(Refusal::Full),
-    }
+    let s = table::find::room_for_two(working, transient, z).ok_or(Refusal::Full)?;
+    append_at(working, transient, z, e, s, value)
 }
 
-fn append_open(working: &mut [u32], transient: &mut [u32], z: Sizes, e: u32, value: &[u32]) -> Check
+fn append_open(
+    working: &mut [u32],
+    transient: &mut [u32],
+    z: Sizes,
+    e: u32,
+    value: &[u32],
+) -> Result<(), Refusal>
     requires { Valued working.old transient.old z value.now }
     ensures { changed result working.new transient.new ≡ append_open z (table working.old transient.old) value.now e }
 {
     if queue::any_newer(working, transient, z, e) {
-        return Check::Refused(Refusal::Newer);
+        return Err(Refusal::Newer);
     }
     if no_number(transient) {
-        return Check::Refused(Refusal::NoUid);
+        return Err(Refusal::NoUid);
     }
     append_in_room(working, transient, z, e, value)
 }
@@ -96,35 +91,41 @@ fn append_sized(
     z: Sizes,
     thread: usize,
     value: &[u32],
-) -> Check
+) -> Result<(), Refusal>
     requires { Entered working.old transient.old z }
     ensures { changed result working.new transient.new ≡ append_sized thread value.now z (table working.old transient.old) }
 {
     let bad = bad_value(z, value);
-    match jobs::way::way_in(transient, z, thread, bad) {
-        Way::Declined(r) => Check::Refused(r),
-        Way::Open(e) => append_open(working, transient, z, e, value),
-    }
+    let e = jobs::way::way_in(transient, z, thread, bad)?;
+    append_open(working, transient, z, e, value)
 }
 
-fn append_entered(working: &mut [u32], transient: &mut [u32], thread: u32, value: &[u32]) -> Check
+fn append_entered(
+    working: &mut [u32],
+    transient: &mut [u32],
+    thread: u32,
+    value: &[u32],
+) -> Result<(), Refusal>
     requires { Entered working.old transient.old (sizes_of (table working.old transient.old)) }
     ensures { changed result working.new transient.new ≡ append_sized thread value.now (sizes_of (table working.old transient.old)) (table working.old transient.old) }
 {
     let z = transient::sizes::read_sizes(working, transient);
-    append_sized(working, transient, z, image::shape::wide(thread), value)
+    append_sized(working, transient, z, thread as usize, value)
 }
 
 // The number that the entry gets is the next one as it stood before.
-fn append_given(working: &mut [u32], transient: &mut [u32], thread: u32, value: &[u32]) -> Append
+fn append_given(
+    working: &mut [u32],
+    transient: &mut [u32],
+    thread: u32,
+    value: &[u32],
+) -> Result<u32, Refusal>
     requires { Entered working.old transient.old (sizes_of (table working.old transient.old)) }
     ensures { given result working.new transient.new ≡ append_given thread value.now (table working.old transient.old) }
 {
     let order = transient::notes::next_order(transient);
-    match append_entered(working, transient, thread, value) {
-        Check::Accepted => Append::Given(order),
-        Check::Refused(r) => Append::Declined(r),
-    }
+    append_entered(working, transient, thread, value)?;
+    Ok(order)
 }
 
 // Appends an entry in the open operation of the thread.
@@ -134,11 +135,9 @@ pub fn append_entry(
     transient: &mut [u32],
     thread: u32,
     value: &[u32],
-) -> Append
+) -> Result<u32, Refusal>
     ensures { outcome result working.new persistent.now transient.new ≡ append_entry (store working.old persistent.now transient.old) thread value.now }
 {
-    match transient::entry::check(working, persistent, transient) {
-        Check::Refused(r) => Append::Declined(r),
-        Check::Accepted => append_given(working, transient, thread, value),
-    }
+    transient::entry::check(working, persistent, transient)?;
+    append_given(working, transient, thread, value)
 }

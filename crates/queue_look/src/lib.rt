@@ -1,5 +1,5 @@
 // Look: the value of the queue's front, as a part of the working image.
-#![tactic(auto)]
+#![tactic(auto, using(crate::specs::Exits::laws))]
 
 ghost use Rattle.std.specs.Prelude.{◌≡◌};
 ghost use Rattle.transient.specs.Store.{store, table};
@@ -8,43 +8,38 @@ ghost use Rattle.job_read.specs.Read.{shown_value, read_number, read_position};
 ghost use Rattle.queue_look.specs.Look.{look_sized, look_entry};
 ghost use Rattle.queue_look.specs.Stages.{look_open};
 
-use job_read::Reading;
-use reply::{Check, Refusal};
-use table::find::Lookup;
+use reply::Refusal;
 use transient::sizes::Sizes;
 
-fn look_open(working: &[u32], transient: &[u32], z: Sizes, e: u32) -> Reading
+fn look_open(working: &[u32], transient: &[u32], z: Sizes, e: u32) -> Result<usize, Refusal>
     requires { Entered working.now transient.now z }
     ensures { result ≡ look_open z (table working.now transient.now) e }
 {
-    match queue::look_up_front(working, transient, z, e) {
-        Lookup::Later => Reading::Declined(Refusal::Newer),
-        Lookup::Live(s) => Reading::Shown(s),
-        Lookup::Absent => Reading::Declined(Refusal::QueueEmpty),
-    }
+    queue::look_up_front(working, transient, z, e)?.ok_or(Refusal::QueueEmpty)
 }
 
-fn look_sized(working: &[u32], transient: &[u32], z: Sizes, thread: usize) -> Reading
+fn look_sized(working: &[u32], transient: &[u32], z: Sizes, thread: usize) -> Result<usize, Refusal>
     requires { Entered working.now transient.now z }
     ensures { result ≡ look_sized thread z (table working.now transient.now) }
 {
     if z.t <= thread {
-        return Reading::Declined(Refusal::NoThread);
+        return Err(Refusal::NoThread);
     }
     let e = transient::notes::open_epoch(transient, z, thread);
     look_open(working, transient, z, e)
 }
 
-pub fn look_slot(working: &[u32], persistent: &[u32], transient: &[u32], thread: u32) -> Reading
+pub fn look_slot(
+    working: &[u32],
+    persistent: &[u32],
+    transient: &[u32],
+    thread: u32,
+) -> Result<usize, Refusal>
     ensures { result ≡ look_entry (store working.now persistent.now transient.now) thread }
 {
-    match transient::entry::check(working, persistent, transient) {
-        Check::Refused(r) => Reading::Declined(r),
-        Check::Accepted => {
-            let z = transient::sizes::read_sizes(working, transient);
-            look_sized(working, transient, z, image::shape::wide(thread))
-        }
-    }
+    transient::entry::check(working, persistent, transient)?;
+    let z = transient::sizes::read_sizes(working, transient);
+    look_sized(working, transient, z, thread as usize)
 }
 
 // The value, as the caller's own part of the working image; empty on refusal.

@@ -1,16 +1,12 @@
 -- A whole recovery completes and leaves just the survivors, whatever working and notes hold before each of its calls, and however often
 -- it is cut. The idea: each call that goes on leaves one header less that is not zeros, and a cut none more.
-use Rattle.std.specs.Prelude.{ℕ, zero, suc, ◌+◌, ◌-◌, ◌≤◌, ◌<◌, ◌≡◌, refl, true, ◌⊎◌, List, length, eqb}
+use Rattle.std.specs.Prelude.{ℕ, zero, suc, ◌+◌, ◌-◌, ◌≤◌, ◌<◌, ◌≡◌, refl, true, ◌⊎◌, List, length, eqb, Option, Some, None, Result, Ok, Err}
 use Rattle.std.proofs.Common.{sym, ap, ◌∙◌, inl, inr, ⊎_elim, arith}
 use Rattle.std.proofs.lemmas.Bool.{not-true}
 use Rattle.std.proofs.Math.Decide.{ℕ_discrete}
 use Rattle.search.specs.Bools.{never, refuted, not-is-true, and_right}
 use Rattle.search.specs.First.{found-cases}
 use Rattle.search.specs.Count.{count, count-top, count-mono}
-use Rattle.search.specs.declared.Found.{Found}
-use Rattle.search.specs.declared.Found.TheVariants.{At, Nothing}
-use Rattle.reply.specs.declared.Check.{Check}
-use Rattle.reply.specs.declared.Check.TheVariants.{Accepted, Refused}
 use Rattle.reply.specs.declared.Refusal.{Refusal}
 use Rattle.image.specs.declared.header.Header.{Header}
 use Rattle.image.specs.Layout.{slots_of, width_of, is_blank, header, free_header}
@@ -31,13 +27,14 @@ use Rattle.recovery.specs.Requires.{finished}
 use Rattle.recovery.specs.Notes.{recovered-long, recovered-indexed}
 use Rattle.recovery.specs.Steps.{SameSurvivors, nonzero_at, next-spent, free-keeps, free-accepted, step-lowers, done-survivors}
 use Rattle.recovery.specs.declared.Recovery.{Recovery}
-use Rattle.recovery.specs.declared.Recovery.TheVariants.{WentOn, Done, Declined}
+use Rattle.recovery.specs.declared.Recovery.TheVariants.{WentOn, Done}
+use Rattle.reply.specs.Refusals.{Check}
 
 -- what the call that replies "done" leaves: in lasting the survivors of l and zeros in all other headers, in working a copy, the notes
 -- (of `words` words) set, their index for working
 pub record Rebuilt (l : List ℕ) (words : ℕ) (st : Store) : Type 0 where
   pub same : SameSurvivors l st.persistent
-  pub accepted : image_check st.persistent ≡ Accepted
+  pub accepted : image_check st.persistent ≡ Ok tt
   pub just : (s : ℕ) → s < slots_of l → nonzero_at st.persistent s ≡ survivor l (slots_of l) s
   pub rest : st ≡ finished st.persistent words (slots_of l) (width_of l)
   pub indexed : Indexed (sizes_of (table_of st)) st.working st.transient
@@ -72,20 +69,20 @@ same-trans {l} {m} {k} a b =
     }
 
 -- ---- a step of recovery, and what a cut leaves of it
-module _ (a : List ℕ) (s : ℕ) (ok : image_check a ≡ Accepted) (next : next_freed a (slots_of a) ≡ At s) where
+module _ (a : List ℕ) (s : ℕ) (ok : image_check a ≡ Ok tt) (next : next_freed a (slots_of a) ≡ Some s) where
   abbrev after : List ℕ
   after = store_line a (header_line s free_header)
 
   step_keeps : SameSurvivors a after
   step_keeps = free-keeps a s free_header free-zero ok (next-spent a (slots_of a) s next)
 
-  step-accepted : image_check after ≡ Accepted
+  step-accepted : image_check after ≡ Ok tt
   step-accepted = free-accepted a s free_header free-zero ok (next-spent a (slots_of a) s next)
 
 -- what is zeros in the one image stays so in the other
 record Fewer (a b : List ℕ) : Type 0 where
   same : SameSurvivors a b
-  ok : image_check b ≡ Accepted
+  ok : image_check b ≡ Ok tt
   few : count (nonzero_at b) (slots_of a) ≤ count (nonzero_at a) (slots_of a)
 
 mixed-blank : {x g : Header} → Mixed x g free_header → is_blank g ≡ true → is_blank x ≡ true
@@ -102,7 +99,7 @@ mixed-blank {x} {g} m b =
     zero_of (inl r) e = r ∙ e
     zero_of (inr r) e = r
 
-torn-fewer : {a b : List ℕ} {s : ℕ} → image_check a ≡ Accepted → next_freed a (slots_of a) ≡ At s → Remains a s b → Fewer a b
+torn-fewer : {a b : List ℕ} {s : ℕ} → image_check a ≡ Ok tt → next_freed a (slots_of a) ≡ Some s → Remains a s b → Fewer a b
 unfolding nonzero_at
 torn-fewer {a} {b} {s} ok next r =
     let p = next-spent a (slots_of a) s next in
@@ -122,40 +119,40 @@ torn-fewer {a} {b} {s} ok next r =
     ]
 
 -- ---- one call on an accepted image: it does not decline
-not-declined : (w l t : List ℕ) → image_check l ≡ Accepted → lengths_fit (length w) l (length t) ≡ true
+not-declined : (w l t : List ℕ) → image_check l ≡ Ok tt → lengths_fit (length w) l (length t) ≡ true
     → recover (store w l t) ≡ freeing (next_freed l (slots_of l)) (store w l t) (slots_of l) (width_of l)
 unfolding recover recover_check
 not-declined w l t ok fit = rw (fit, ok)
 
 -- it goes on, or it is the one that is done
 data Call (a : List ℕ) (any : AnyWords a) : Type 0 where
-  goes : (s : ℕ) → next_freed a (slots_of a) ≡ At s → (call a any).reply ≡ WentOn → left a any ≡ store_line a (header_line s free_header) → Call a any
-  ends : next_freed a (slots_of a) ≡ Nothing → (call a any).reply ≡ Done → left a any ≡ a → (call a any).store ≡ finished a (length any.transient) (slots_of a) (width_of a) → Call a any
+  goes : (s : ℕ) → next_freed a (slots_of a) ≡ Some s → (call a any).reply ≡ Ok WentOn → left a any ≡ store_line a (header_line s free_header) → Call a any
+  ends : next_freed a (slots_of a) ≡ None → (call a any).reply ≡ Ok Done → left a any ≡ a → (call a any).store ≡ finished a (length any.transient) (slots_of a) (width_of a) → Call a any
 
-call-cases : (a : List ℕ) → image_check a ≡ Accepted → (any : AnyWords a) → Call a any
+call-cases : (a : List ℕ) → image_check a ≡ Ok tt → (any : AnyWords a) → Call a any
 unfolding finished
 call-cases a ok any = go (found-cases (next_freed a (slots_of a)))
   where
     is : call a any ≡ freeing (next_freed a (slots_of a)) (store any.working a any.transient) (slots_of a) (width_of a)
     is = not-declined any.working a any.transient ok any.fit
 
-    found : {f : Found} → next_freed a (slots_of a) ≡ f → call a any ≡ freeing f (store any.working a any.transient) (slots_of a) (width_of a)
+    found : {f : Option ℕ} → next_freed a (slots_of a) ≡ f → call a any ≡ freeing f (store any.working a any.transient) (slots_of a) (width_of a)
     found e = is ∙ ap (λ f. freeing f (store any.working a any.transient) (slots_of a) (width_of a)) e
 
-    go : ((s : ℕ) × (next_freed a (slots_of a) ≡ At s)) ⊎ (next_freed a (slots_of a) ≡ Nothing) → Call a any
-    go (inl (s, e)) = goes s e (ap (λ (o : Outcome Recovery). o.reply) (found e)) (ap (λ (o : Outcome Recovery). o.store.persistent) (found e))
-    go (inr e) = ends e (ap (λ (o : Outcome Recovery). o.reply) (found e)) (ap (λ (o : Outcome Recovery). o.store.persistent) (found e)) (ap (λ (o : Outcome Recovery). o.store) (found e))
+    go : ((s : ℕ) × (next_freed a (slots_of a) ≡ Some s)) ⊎ (next_freed a (slots_of a) ≡ None) → Call a any
+    go (inl (s, e)) = goes s e (ap (λ (o : Outcome (Result Recovery Refusal)). o.reply) (found e)) (ap (λ (o : Outcome (Result Recovery Refusal)). o.store.persistent) (found e))
+    go (inr e) = ends e (ap (λ (o : Outcome (Result Recovery Refusal)). o.reply) (found e)) (ap (λ (o : Outcome (Result Recovery Refusal)). o.store.persistent) (found e)) (ap (λ (o : Outcome (Result Recovery Refusal)). o.store) (found e))
 
 -- ---- a is what recovery from l has come to, k calls having gone on
 record OnTheWay (l : List ℕ) (k : ℕ) (a : List ℕ) : Type 0 where
   same : SameSurvivors l a
-  ok : image_check a ≡ Accepted
+  ok : image_check a ≡ Ok tt
   few : count (nonzero_at a) (slots_of l) + k ≤ slots_of l
 
-setting-out : (l : List ℕ) → image_check l ≡ Accepted → OnTheWay l 0 l
+setting-out : (l : List ℕ) → image_check l ≡ Ok tt → OnTheWay l 0 l
 setting-out l ok = record { same = same_refl l; ok = ok; few = omega (arith, count-top (nonzero_at l) (slots_of l)) }
 
-one_further : {l a : List ℕ} {k s : ℕ} → OnTheWay l k a → next_freed a (slots_of a) ≡ At s → OnTheWay l (suc k) (store_line a (header_line s free_header))
+one_further : {l a : List ℕ} {k s : ℕ} → OnTheWay l k a → next_freed a (slots_of a) ≡ Some s → OnTheWay l (suc k) (store_line a (header_line s free_header))
 one_further {l} {a} {k} {s} o next =
     let down = rw o.same.slots at (step-lowers a s o.ok next) in
     record {
@@ -170,14 +167,14 @@ no-further o f =
     record { same = same-trans o.same f.same; ok = f.ok; few = omega (arith, o.few) }
 
 -- the index by the sizes that the next call reads
-finished-indexed : (a : List ℕ) (words : ℕ) → image_check a ≡ Accepted → threads_ok words (slots_of a) ≡ true
+finished-indexed : (a : List ℕ) (words : ℕ) → image_check a ≡ Ok tt → threads_ok words (slots_of a) ≡ true
     → Indexed (sizes_of (table a (recovered_notes a words (slots_of a) (width_of a)))) a (recovered_notes a words (slots_of a) (width_of a))
 unfolding sizes_of
 finished-indexed a words ok fit =
     let n = slots_of a in
     rw (recovered-long a words n (width_of a)) (recovered-indexed a words n (width_of a) fit (accepted-says a ok).sized.sizes.slots-hi)
 
-arrived : {l a : List ℕ} {k : ℕ} (words : ℕ) → threads_ok words (slots_of a) ≡ true → OnTheWay l k a → next_freed a (slots_of a) ≡ Nothing
+arrived : {l a : List ℕ} {k : ℕ} (words : ℕ) → threads_ok words (slots_of a) ≡ true → OnTheWay l k a → next_freed a (slots_of a) ≡ None
     → Rebuilt l words (finished a words (slots_of a) (width_of a))
 unfolding finished
 arrived {l} {a} words fit o none =
@@ -189,10 +186,10 @@ unfolding lengths_fit
 any-threads {a} any = and_right (eqb (length any.working) (length a)) _ any.fit
 
 -- a reply that is not this one
-other-reply : {A : Type 0} → ◌≡◌ {A = Recovery} Done WentOn → A
+other-reply : {A : Type 0} → ◌≡◌ {A = Result Recovery Refusal} (Ok Done) (Ok WentOn) → A
 other-reply e = let z : ◌≡◌ {A = ℕ} 0 1 = cc in absurd (omega arith)
 
-module _ (l : List ℕ) (ok : image_check l ≡ Accepted) where
+module _ (l : List ℕ) (ok : image_check l ≡ Ok tt) where
   way : {k : ℕ} {a : List ℕ} → Reached l k a → OnTheWay l k a
   way at_first = setting-out l ok
   way (went_on {k} {a} r any e) = go (way r)
@@ -213,7 +210,7 @@ module _ (l : List ℕ) (ok : image_check l ≡ Accepted) where
       ]
 
 -- so many calls more are enough
-completes-in : (more : ℕ) (a : List ℕ) → image_check a ≡ Accepted → count (nonzero_at a) (slots_of a) ≤ more → Completes more a
+completes-in : (more : ℕ) (a : List ℕ) → image_check a ≡ Ok tt → count (nonzero_at a) (slots_of a) ≤ more → Completes more a
 unfolding Completes
 completes-in zero a ok h = λ any. elim (call-cases a ok any) [
   | goes s next g is ↦ absurd (omega (arith, h, step-lowers a s ok next))
@@ -224,12 +221,12 @@ completes-in (suc more) a ok h = λ any. elim (call-cases a ok any) [
   | ends next d q is ↦ inl d
 ]
   where
-    fewer : (s : ℕ) → next_freed a (slots_of a) ≡ At s
+    fewer : (s : ℕ) → next_freed a (slots_of a) ≡ Some s
         → count (nonzero_at (store_line a (header_line s free_header))) (slots_of (store_line a (header_line s free_header))) ≤ more
     fewer s next = rw (step_keeps a s ok next).slots (omega (arith, h, step-lowers a s ok next))
 
 -- ---- the theorem: from an image that recovery accepts, with any words in working and notes before each call and with any cuts
-module _ {l a : List ℕ} {k : ℕ} (ok : image_check l ≡ Accepted) (r : Reached l k a) where
+module _ {l a : List ℕ} {k : ℕ} (ok : image_check l ≡ Ok tt) (r : Reached l k a) where
   -- at most N calls reply "went on" ..
   pub recovery-bound : k ≤ slots_of l
   recovery-bound = omega (arith, (way l ok r).few)
@@ -241,14 +238,14 @@ module _ {l a : List ℕ} {k : ℕ} (ok : image_check l ≡ Accepted) (r : Reach
       completes-in (slots_of l - k) a o.ok (rw o.same.slots (omega (arith, o.few)))
 
   -- .. and then both images hold the survivors of l and nothing else
-  pub recovery-rebuilds : (any : AnyWords a) → (call a any).reply ≡ Done → Rebuilt l (length any.transient) (call a any).store
+  pub recovery-rebuilds : (any : AnyWords a) → (call a any).reply ≡ Ok Done → Rebuilt l (length any.transient) (call a any).store
   recovery-rebuilds any e = elim (call-cases a (way l ok r).ok any) [
     | goes s next g is ↦ other-reply (sym e ∙ g)
     | ends next d q is ↦ rw is (arrived (length any.transient) (any-threads any) (way l ok r) next)
   ]
 
 -- ---- a refused recover call leaves the store as it was
-pub recover-keeps : (st : Store) (r : Refusal) → (recover st).reply ≡ Declined r → (recover st).store ≡ st
+pub recover-keeps : (st : Store) (r : Refusal) → (recover st).reply ≡ Err r → (recover st).store ≡ st
 unfolding recover
 recover-keeps st r = go (recover_check st)
   where
@@ -258,13 +255,13 @@ recover-keeps st r = go (recover_check st)
     w : ℕ
     w = width_of st.persistent
 
-    freed : (f : Found) → (freeing f st n w).reply ≡ Declined r → (freeing f st n w).store ≡ st
-    freed (At s) d = let z : ◌≡◌ {A = ℕ} 0 1 = cc in absurd (omega arith)
-    freed Nothing d = let z : ◌≡◌ {A = ℕ} 0 1 = cc in absurd (omega arith)
+    freed : (f : Option ℕ) → (freeing f st n w).reply ≡ Err r → (freeing f st n w).store ≡ st
+    freed (Some s) d = let z : ◌≡◌ {A = ℕ} 0 1 = cc in absurd (omega arith)
+    freed None d = let z : ◌≡◌ {A = ℕ} 0 1 = cc in absurd (omega arith)
 
-    next : Outcome Recovery
+    next : Outcome (Result Recovery Refusal)
     next = freeing (next_freed st.persistent n) st n w
 
-    go : (k : Check) → (after_check k Declined st next).reply ≡ Declined r → (after_check k Declined st next).store ≡ st
-    go (Refused q) d = refl
-    go Accepted d = freed (next_freed st.persistent n) d
+    go : (k : Check) → (after_check k Err st next).reply ≡ Err r → (after_check k Err st next).store ≡ st
+    go (Err q) d = refl
+    go (Ok _) d = freed (next_freed st.persistent n) d

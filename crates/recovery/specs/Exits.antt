@@ -1,5 +1,5 @@
 -- The ways out of recover's functions.
-use Rattle.std.specs.Prelude.{ℕ, ◌+◌, ◌≤◌, ◌<◌, ◌^◌, ◌≡◌, refl, Bool, false, not, ◌&&◌, List, length, get_or, leb, eqb}
+use Rattle.std.specs.Prelude.{ℕ, ◌+◌, ◌≤◌, ◌<◌, ◌^◌, ◌≡◌, refl, Bool, false, not, ◌&&◌, List, length, get_or, leb, eqb, Option, Some, None, Result, Ok, Err}
 use Rattle.std.proofs.Common.{sym, ◌∙◌, ⊎_elim, Fits, add-one, arith}
 use Rattle.std.proofs.Math.Path.{ap}
 use Rattle.std.proofs.Math.Bool.{true, and-false}
@@ -8,13 +8,9 @@ use borrow.Author.Tests.{lt-ltb, le-ltb, eq-eqb, ne_eqb, eqb-true, leb-true, not
 use Rattle.search.specs.Bools.{cases, and_left, and_right, tests}
 use Rattle.search.specs.First.{where_found, first_of, Sought, sought-start, sought-next, found-hit, found-end, found_first, loops as firsts}
 use Rattle.search.specs.Largest.{largest-top, raised, Climbing, climbing-start, climbing-next, climbing-end}
-use Rattle.search.specs.declared.Found.{Found}
-use Rattle.search.specs.declared.Found.TheVariants.{At, Nothing}
-use Rattle.reply.specs.declared.Check.{Check}
-use Rattle.reply.specs.declared.Check.TheVariants.{Accepted, Refused}
 use Rattle.reply.specs.declared.Refusal.{Refusal}
 use Rattle.reply.specs.declared.Refusal.TheVariants.{BadSizes, BadClock}
-use Rattle.reply.specs.Refusals.{refuse, by_check, not-refused}
+use Rattle.reply.specs.Refusals.{Check, refuse, by_check, not-refused}
 use Rattle.image.specs.declared.header.Header.{Header}
 use Rattle.image.specs.Layout.{most_slots, most_number, queue_board, is_blank, has_zero, is_payload, header, key_at, slots_of, width_of, clock_of, shape_ok, clock_ok, free_header}
 use Rattle.image.specs.Line.{header_line, stored, store_line}
@@ -37,7 +33,7 @@ use Rattle.acceptance.specs.Checking.{Checked, flags-new, checked-same}
 use Rattle.acceptance.specs.Sound.{Sound, sound, filled-proper}
 use Rattle.recovery.specs.declared.Numbers.{Numbers}
 use Rattle.recovery.specs.declared.Recovery.{Recovery}
-use Rattle.recovery.specs.declared.Recovery.TheVariants.{WentOn, Done, Declined}
+use Rattle.recovery.specs.declared.Recovery.TheVariants.{WentOn, Done}
 use Rattle.recovery.specs.Recover.{anti_at, stale, next_freed, next_uid, next_order, lengths_fit, recover_check, recovered_notes, freeing, recover}
 use Rattle.recovery.specs.Requires.{uid_of, recover_entry_check, anti_up_to, finished, numbers, numbers_of, notes_over, Numbered, Noting, Finishing, Judged, recover_sized}
 use Rattle.recovery.specs.Notes.{threads-some, threads-notes}
@@ -73,31 +69,31 @@ module _ (l : List ℕ) (n s : ℕ) {d : Bool} (de : d ≡ not (survivor l n s))
       unfolding stale
       stale-yes y = rw (← at, ← bl, f, ← de, e, ← k, y)
 
-module _ (l : List ℕ) (s : ℕ) {f : Found} where
-  pub anti-before : {t : ℕ} → f ≡ At t → At t ≡ anti_up_to l s f
+module _ (l : List ℕ) (s : ℕ) {f : Option ℕ} where
+  pub anti-before : {t : ℕ} → f ≡ Some t → Some t ≡ anti_up_to l s f
   unfolding anti_up_to
   anti-before e = rw e
 
-  pub anti-here : {a : Bool} → f ≡ Nothing → a ≡ anti_at l s → a ≡ true → At s ≡ anti_up_to l s f
+  pub anti-here : {a : Bool} → f ≡ None → a ≡ anti_at l s → a ≡ true → Some s ≡ anti_up_to l s f
   unfolding anti_up_to
   anti-here e q t = rw (e, ← q, t)
 
-  pub anti-none : {a : Bool} → f ≡ Nothing → a ≡ anti_at l s → a ≡ false → Nothing ≡ anti_up_to l s f
+  pub anti-none : {a : Bool} → f ≡ None → a ≡ anti_at l s → a ≡ false → None ≡ anti_up_to l s f
   unfolding anti_up_to
   anti-none e q t = rw (e, ← q, t)
 
 -- the walk has passed s of n slots, none of them stale, and has the first kept DELETE of these
-pub record Freeing (l : List ℕ) (n s : ℕ) (anti : Found) : Type 0 where
+pub record Freeing (l : List ℕ) (n s : ℕ) (anti : Option ℕ) : Type 0 where
   pub sought : Sought (stale l n) n s
   pub anti-is : anti ≡ first_of (anti_at l) s
 
-pub freeing-start : (l : List ℕ) (n : ℕ) → Freeing l n 0 Nothing
+pub freeing-start : (l : List ℕ) (n : ℕ) → Freeing l n 0 None
 unfolding first_of
 freeing-start l n = record { sought = sought-start (stale l n) n; anti-is = refl }
 
-found-same : (f : Found) → where_found f At Nothing ≡ f
-found-same (At t) = refl
-found-same Nothing = refl
+found-same : (f : Option ℕ) → where_found f Some None ≡ f
+found-same (Some t) = refl
+found-same None = refl
 
 -- a survivor is no DELETE
 survivor-anti : (l : List ℕ) (n s : ℕ) → survivor l n s ≡ true → anti_at l s ≡ false
@@ -107,7 +103,7 @@ survivor-anti l n s e =
     let top = leb-true h.kind 2 (and_right (not (has_zero h)) _ (and_left (not (has_zero h) && leb h.kind 2) _ e)) in
     rw (ne_eqb h.kind 3 (λ q. omega arith)) (and-false (kept (clock_of l) h))
 
-module _ {l : List ℕ} {n s : ℕ} {anti : Found} (z : Freeing l n s anti) (h : s < n) {d : Bool} (e : d ≡ not (survivor l n s)) where
+module _ {l : List ℕ} {n s : ℕ} {anti : Option ℕ} (z : Freeing l n s anti) (h : s < n) {d : Bool} (e : d ≡ not (survivor l n s)) where
   pub freeing-survives : d ≡ false → Freeing l n (s + 1) anti
   unfolding first_of
   freeing-survives f =
@@ -118,27 +114,27 @@ module _ {l : List ℕ} {n s : ℕ} {anti : Found} (z : Freeing l n s anti) (h :
       }
 
   module _ {r : Bool} (t : d ≡ true) (st : r ≡ stale l n s) where
-    pub freeing-stale : r ≡ true → At s ≡ next_freed l n
+    pub freeing-stale : r ≡ true → Some s ≡ next_freed l n
     unfolding next_freed
     freeing-stale y = rw (← found-hit z.sought h st y)
 
-    pub freeing-on : {anti' : Found} → r ≡ false → anti' ≡ anti_up_to l s anti → Freeing l n (s + 1) anti'
+    pub freeing-on : {anti' : Option ℕ} → r ≡ false → anti' ≡ anti_up_to l s anti → Freeing l n (s + 1) anti'
     unfolding first_of anti_up_to
     freeing-on f q = record { sought = sought-next z.sought h st f; anti-is = rw (add-one s, ← z.anti-is) q }
 
-pub freeing-end : {l : List ℕ} {n s : ℕ} {anti : Found} → Freeing l n s anti → n ≤ s → anti ≡ next_freed l n
+pub freeing-end : {l : List ℕ} {n s : ℕ} {anti : Option ℕ} → Freeing l n s anti → n ≤ s → anti ≡ next_freed l n
 unfolding next_freed
 freeing-end {l} {n} {s} z h =
     let e : s ≡ n = omega (arith, z.sought.low) in
     rw (← found-end z.sought h) (z.anti-is ∙ (rw e))
 
-pub freed-below : (l : List ℕ) (n s : ℕ) → next_freed l n ≡ At s → s < n
+pub freed-below : (l : List ℕ) (n s : ℕ) → next_freed l n ≡ Some s → s < n
 unfolding next_freed
 freed-below l n s e = go (first_of (stale l n) n) refl
   where
-    go : (f : Found) → first_of (stale l n) n ≡ f → s < n
-    go (At t) q = let z : At t ≡ At s = rw q at e in let y : t ≡ s = cc in let h : t < n = (found_first (stale l n) n q).below in omega arith
-    go Nothing q = let z : first_of (anti_at l) n ≡ At s = rw q at e in (found_first (anti_at l) n z).below
+    go : (f : Option ℕ) → first_of (stale l n) n ≡ f → s < n
+    go (Some t) q = let z : Some t ≡ Some s = rw q at e in let y : t ≡ s = cc in let h : t < n = (found_first (stale l n) n q).below in omega arith
+    go None q = let z : first_of (anti_at l) n ≡ Some s = rw q at e in (found_first (anti_at l) n z).below
 
 -- ---- the next uid
 module _ (l : List ℕ) (n s b : ℕ) (flags : List Bool) (z : FlagAt l n s flags) where
@@ -225,7 +221,7 @@ order-name z = z.slot
 pub finish-marked : {wk l t : List ℕ} {flags : List Bool} {n w : ℕ} → Finishing wk l t flags n w → Marked l n flags
 finish-marked z = all-marked z.numbers.marked
 
-pub finish-header : (wk l t : List ℕ) (flags : List Bool) {n w s : ℕ} {f : Found} → Finishing wk l t flags n w → f ≡ next_freed l n → f ≡ At s → HeaderFits l n s
+pub finish-header : (wk l t : List ℕ) (flags : List Bool) {n w s : ℕ} {f : Option ℕ} → Finishing wk l t flags n w → f ≡ next_freed l n → f ≡ Some s → HeaderFits l n s
 finish-header wk l t flags {n} {w} {s} z e a = header-in (headers-of z.numbers.marked.sized) (freed-below l n s (sym e ∙ a))
 
 -- working becomes a copy: as long as it was
@@ -265,30 +261,30 @@ pub noting-done : (l t : List ℕ) (n w : ℕ) (next : Numbers) {m k : ℕ} {t' 
 unfolding notes_over
 noting-done l t n w next e q b r = rw (r, b, q, e)
 
-module _ (wk l t : List ℕ) (n w : ℕ) {f : Found} (fr : f ≡ next_freed l n) where
-  pub free_on : {s : ℕ} {h : Header} {l' : List ℕ} → f ≡ At s → h ≡ free_header → l' ≡ store_line l (header_line s h) → outcome WentOn wk l' t ≡ freeing (next_freed l n) (store wk l t) n w
+module _ (wk l t : List ℕ) (n w : ℕ) {f : Option ℕ} (fr : f ≡ next_freed l n) where
+  pub free_on : {s : ℕ} {h : Header} {l' : List ℕ} → f ≡ Some s → h ≡ free_header → l' ≡ store_line l (header_line s h) → outcome (Ok WentOn) wk l' t ≡ freeing (next_freed l n) (store wk l t) n w
   free_on e q p = rw (← fr, e, p, q)
 
-  pub free-done : {wk' t' : List ℕ} → f ≡ Nothing → store wk' l t' ≡ finished l (length t) n w → outcome Done wk' l t' ≡ freeing (next_freed l n) (store wk l t) n w
+  pub free-done : {wk' t' : List ℕ} → f ≡ None → store wk' l t' ≡ finished l (length t) n w → outcome (Ok Done) wk' l t' ≡ freeing (next_freed l n) (store wk l t) n w
   unfolding finished
-  free-done {wk'} {t'} e p = rw (← fr, e) (ap (λ st. record { reply = Done; store = st }) p)
+  free-done {wk'} {t'} e p = rw (← fr, e) (ap (λ st. record { reply = Ok Done; store = st }) p)
 
 -- ---- refusals 1 and 2
-sizes-both : (b : Bool) → Refused BadSizes ≡ refuse b BadSizes (Refused BadSizes)
+sizes-both : (b : Bool) → Err BadSizes ≡ refuse b BadSizes (Err BadSizes)
 sizes-both true = refl
 sizes-both false = refl
 
 module _ (wl : ℕ) (l : List ℕ) (tl : ℕ) {s : Bool} (sh : s ≡ shape_ok l) where
-  pub entry-shape : s ≡ false → Refused BadSizes ≡ recover_entry_check wl l tl
+  pub entry-shape : s ≡ false → Err BadSizes ≡ recover_entry_check wl l tl
   unfolding recover_entry_check head_check
   entry-shape e = rw (← sh, e) (sizes-both (not (lengths_fit wl l tl)))
 
-  pub entry-working : s ≡ true → (wl ≡ length l → ⊥) → Refused BadSizes ≡ recover_entry_check wl l tl
+  pub entry-working : s ≡ true → (wl ≡ length l → ⊥) → Err BadSizes ≡ recover_entry_check wl l tl
   unfolding recover_entry_check lengths_fit
   entry-working t d = rw (ne_eqb wl (length l) d)
 
   module _ {n : ℕ} {k : Bool} (long : wl ≡ length l) (at : n ≡ slots_of l) (th : k ≡ threads_ok tl n) where
-    pub entry-threads : k ≡ false → Refused BadSizes ≡ recover_entry_check wl l tl
+    pub entry-threads : k ≡ false → Err BadSizes ≡ recover_entry_check wl l tl
     unfolding recover_entry_check lengths_fit
     entry-threads e = rw (eq-eqb wl (length l) long, ← at, ← th, e)
 
@@ -303,24 +299,24 @@ pub entry-slots : (l : List ℕ) {s : Bool} {n : ℕ} → s ≡ shape_ok l → s
 entry-slots l e t q = let z = shaped l (sym e ∙ t) in omega arith
 
 -- ---- past refusals 1 and 2
-entry-passed : (wk l t : List ℕ) {k : Check} → k ≡ recover_entry_check (length wk) l (length t) → k ≡ Accepted → Judged wk l t (slots_of l) (width_of l)
+entry-passed : (wk l t : List ℕ) {k : Check} → k ≡ recover_entry_check (length wk) l (length t) → k ≡ Ok tt → Judged wk l t (slots_of l) (width_of l)
 unfolding recover_entry_check head_check lengths_fit
 entry-passed wk l t e a =
     let same = eqb (length wk) (length l) in
     let threads = threads_ok (length t) (slots_of l) in
     let one = not-refused (not (same && threads)) BadSizes (head_check l) (sym e ∙ a) in
     let fit : same && threads ≡ true = not-false (same && threads) one.0 in
-    let two = not-refused (not (shape_ok l)) BadSizes (refuse (not (clock_ok (clock_of l))) BadClock Accepted) one.1 in
+    let two = not-refused (not (shape_ok l)) BadSizes (refuse (not (clock_ok (clock_of l))) BadClock (Ok tt)) one.1 in
     record {
       sized = shaped l (not-false (shape_ok l) two.0);
       same = eqb-true (length wk) (length l) (and_left same threads fit);
       notes = and_right same threads fit;
     }
 
-pub judged : (wk l t : List ℕ) {k : Check} {n w : ℕ} → k ≡ recover_entry_check (length wk) l (length t) → k ≡ Accepted → n ≡ slots_of l → w ≡ width_of l → Judged wk l t n w
+pub judged : (wk l t : List ℕ) {k : Check} {n w : ℕ} → k ≡ recover_entry_check (length wk) l (length t) → k ≡ Ok tt → n ≡ slots_of l → w ≡ width_of l → Judged wk l t n w
 judged wk l t e a p q = rw (p, q) (entry-passed wk l t e a)
 
-pub judged-long : (wk l t : List ℕ) (j : ℕ) {k : Check} → k ≡ recover_entry_check (length wk) l (length t) → k ≡ Accepted → j < 3 → j < length l
+pub judged-long : (wk l t : List ℕ) (j : ℕ) {k : Check} → k ≡ recover_entry_check (length wk) l (length t) → k ≡ Ok tt → j < 3 → j < length l
 judged-long wk l t j e a h = let z = (entry-passed wk l t e a).sized in omega arith
 
 pub judged-sized : {wk l t : List ℕ} {n w : ℕ} → Judged wk l t n w → Sized l n w
@@ -342,7 +338,7 @@ order-top {l} {n} {w} {i} s h v =
     let named = rw (name-is l n w i) at (misnamed-false (name_at l n w i) good) in
     named.top on
 
-pub judged-finishing : {wk l t : List ℕ} {flags : List Bool} {n w : ℕ} {k : Check} → Judged wk l t n w → Checked l n w k flags → k ≡ Accepted
+pub judged-finishing : {wk l t : List ℕ} {flags : List Bool} {n w : ℕ} {k : Check} → Judged wk l t n w → Checked l n w k flags → k ≡ Ok tt
     → Finishing wk l t flags n w
 judged-finishing {wk} {l} {t} {flags} {n} {w} z c a =
     let s : Sound l n w = sound l n w (sym c.same ∙ a) in
@@ -358,16 +354,16 @@ judged-finishing {wk} {l} {t} {flags} {n} {w} z c a =
     }
 
 module _ (wk l t : List ℕ) (n w : ℕ) {k : Check} (c : k ≡ slots_check l n w) where
-  pub step-declines : {r : Refusal} → k ≡ Refused r → outcome (Declined r) wk l t ≡ recover_sized (store wk l t) n w
+  pub step-declines : {r : Refusal} → k ≡ Err r → outcome (Err r) wk l t ≡ recover_sized (store wk l t) n w
   unfolding recover_sized
   step-declines a = rw (← c, a)
 
-  pub step-goes : {r : Outcome Recovery} → k ≡ Accepted → r ≡ freeing (next_freed l n) (store wk l t) n w → r ≡ recover_sized (store wk l t) n w
+  pub step-goes : {r : Outcome (Result Recovery Refusal)} → k ≡ Ok tt → r ≡ freeing (next_freed l n) (store wk l t) n w → r ≡ recover_sized (store wk l t) n w
   unfolding recover_sized
   step-goes a h = rw (← c, a) h
 
 -- refusals 1 and 2, then 3 and 4
-recover-is : (wk l t : List ℕ) → recover_check (store wk l t) ≡ by_check (recover_entry_check (length wk) l (length t)) Refused (slots_check l (slots_of l) (width_of l))
+recover-is : (wk l t : List ℕ) → recover_check (store wk l t) ≡ by_check (recover_entry_check (length wk) l (length t)) Err (slots_check l (slots_of l) (width_of l))
 unfolding recover_check recover_entry_check
 recover-is wk l t =
     ⊎_elim
@@ -376,11 +372,11 @@ recover-is wk l t =
     (cases (lengths_fit (length wk) l (length t)))
 
 module _ (wk l t : List ℕ) {k : Check} (c : k ≡ recover_entry_check (length wk) l (length t)) where
-  pub recover-declines : {r : Refusal} → k ≡ Refused r → outcome (Declined r) wk l t ≡ recover (store wk l t)
+  pub recover-declines : {r : Refusal} → k ≡ Err r → outcome (Err r) wk l t ≡ recover (store wk l t)
   unfolding recover
   recover-declines a = rw (recover-is wk l t, ← c, a)
 
-  pub recover-goes : (n w : ℕ) {r : Outcome Recovery} → k ≡ Accepted → n ≡ slots_of l → w ≡ width_of l → r ≡ recover_sized (store wk l t) n w → r ≡ recover (store wk l t)
+  pub recover-goes : (n w : ℕ) {r : Outcome (Result Recovery Refusal)} → k ≡ Ok tt → n ≡ slots_of l → w ≡ width_of l → r ≡ recover_sized (store wk l t) n w → r ≡ recover (store wk l t)
   unfolding recover recover_sized
   recover-goes n w a p q h = rw (recover-is wk l t, ← c, a, ← p, ← q) h
 

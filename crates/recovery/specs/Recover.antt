@@ -1,12 +1,9 @@
 -- 01, "Recovery": one recover call, from a store to a reply and a store.
-use Rattle.std.specs.Prelude.{ℕ, ◌+◌, Bool, not, ◌&&◌, List, length, eqb}
+use Rattle.std.specs.Prelude.{ℕ, ◌+◌, Bool, not, ◌&&◌, List, length, eqb, Option, Some, None, Result, Ok, Err}
 use Rattle.search.specs.First.{first_of, where_found}
 use Rattle.search.specs.Largest.{largest}
-use Rattle.search.specs.declared.Found.{Found}
-use Rattle.search.specs.declared.Found.TheVariants.{At, Nothing}
-use Rattle.reply.specs.declared.Check.{Check}
 use Rattle.reply.specs.declared.Refusal.TheVariants.{BadSizes}
-use Rattle.reply.specs.Refusals.{refuse, declined_number}
+use Rattle.reply.specs.Refusals.{Check, refuse, declined_number}
 use Rattle.image.specs.Layout.{queue_board, is_blank, header, key_at, slots_of, width_of, clock_of, free_header}
 use Rattle.image.specs.Line.{header_line, store_line}
 use Rattle.transient.specs.Store.{Store, Outcome, outcome, after_check}
@@ -15,7 +12,8 @@ use Rattle.index.specs.Index.{rebuilt}
 use Rattle.survival.specs.Survivors.{kept, survivor, survives_on}
 use Rattle.acceptance.specs.Accept.{image_check}
 use Rattle.recovery.specs.declared.Recovery.{Recovery}
-use Rattle.recovery.specs.declared.Recovery.TheVariants.{WentOn, Done, Declined}
+use Rattle.recovery.specs.declared.Recovery.TheVariants.{WentOn, Done}
+use Rattle.reply.specs.declared.Refusal.{Refusal}
 
 -- a kept DELETE
 unfoldable pub anti_at : List ℕ → ℕ → Bool
@@ -28,8 +26,8 @@ stale l n s = not (is_blank (header l s)) && (not (survivor l n s) && not (anti_
 
 -- "frees lasting marks one at a time: first, in slot order, every filled slot that neither survives nor is a kept DELETE;
 -- then, in slot order, the kept DELETEs"
-unfoldable pub next_freed : List ℕ → ℕ → Found
-next_freed l n = where_found (first_of (stale l n) n) At (first_of (anti_at l) n)
+unfoldable pub next_freed : List ℕ → ℕ → Option ℕ
+next_freed l n = where_found (first_of (stale l n) n) Some (first_of (anti_at l) n)
 
 -- "The next uid is one more than the largest surviving uid, 1 if none."
 unfoldable pub next_uid : List ℕ → ℕ → ℕ
@@ -53,17 +51,17 @@ recovered_notes l len n w =
 
 -- "frees the next such mark, leaves working and notes alone and replies went on. The call that finds none to free replies done;
 -- only there does working become a copy and are the notes set."
-abbrev pub freeing : Found → Store → ℕ → ℕ → Outcome Recovery
-freeing (At s) st n w = outcome WentOn st.working (store_line st.persistent (header_line s free_header)) st.transient
-freeing Nothing st n w = outcome Done st.persistent st.persistent (recovered_notes st.persistent (length st.transient) n w)
+abbrev pub freeing : Option ℕ → Store → ℕ → ℕ → Outcome (Result Recovery Refusal)
+freeing (Some s) st n w = outcome (Ok WentOn) st.working (store_line st.persistent (header_line s free_header)) st.transient
+freeing None st n w = outcome (Ok Done) st.persistent st.persistent (recovered_notes st.persistent (length st.transient) n w)
 
-unfoldable pub recover : Store → Outcome Recovery
+unfoldable pub recover : Store → Outcome (Result Recovery Refusal)
 recover st =
     let n = slots_of st.persistent in
-    after_check (recover_check st) Declined st (freeing (next_freed st.persistent n) st n (width_of st.persistent))
+    after_check (recover_check st) Err st (freeing (next_freed st.persistent n) st n (width_of st.persistent))
 
 -- the reply as one number: 0 went on, 1 done, or 2^32 plus the refusal
-abbrev pub recovery_number : Recovery → ℕ
-recovery_number WentOn = 0
-recovery_number Done = 1
-recovery_number (Declined r) = declined_number r
+abbrev pub recovery_number : Result Recovery Refusal → ℕ
+recovery_number (Ok WentOn) = 0
+recovery_number (Ok Done) = 1
+recovery_number (Err r) = declined_number r

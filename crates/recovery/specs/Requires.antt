@@ -1,11 +1,8 @@
 -- What functions inside require: uids and order numbers in range, and what refusals 1 and 2 of recover leave.
-use Rattle.std.specs.Prelude.{ℕ, ◌≤◌, ◌<◌, ◌≡◌, Bool, true, cond, not, List, length}
-use Rattle.search.specs.declared.Found.{Found}
-use Rattle.search.specs.declared.Found.TheVariants.{At, Nothing}
+use Rattle.std.specs.Prelude.{ℕ, ◌≤◌, ◌<◌, ◌≡◌, Bool, true, cond, not, List, length, Option, Some, None, Result, Err}
 use Rattle.search.specs.First.{where_found}
-use Rattle.reply.specs.declared.Check.{Check}
 use Rattle.reply.specs.declared.Refusal.TheVariants.{BadSizes}
-use Rattle.reply.specs.Refusals.{refuse}
+use Rattle.reply.specs.Refusals.{Check, refuse}
 use Rattle.image.specs.Layout.{most_number, queue_board, header, key_at}
 use Rattle.image.specs.Requires.{Sized}
 use Rattle.transient.specs.declared.sizes.Sizes.{Sizes}
@@ -18,7 +15,7 @@ use Rattle.acceptance.specs.Requires.{head_check, slots_check}
 use Rattle.recovery.specs.Recover.{anti_at, next_freed, next_uid, next_order, lengths_fit, recovered_notes, freeing}
 use Rattle.recovery.specs.declared.Numbers.{Numbers}
 use Rattle.recovery.specs.declared.Recovery.{Recovery}
-use Rattle.recovery.specs.declared.Recovery.TheVariants.{Declined}
+use Rattle.reply.specs.declared.Refusal.{Refusal}
 
 abbrev pub uid_of : List ℕ → ℕ → ℕ
 uid_of l s = (header l s).uid
@@ -28,8 +25,8 @@ unfoldable pub recover_entry_check : ℕ → List ℕ → ℕ → Check
 recover_entry_check working l transient = refuse (not (lengths_fit working l transient)) BadSizes (head_check l)
 
 -- the first kept DELETE up to slot s, after the first below it
-unfoldable pub anti_up_to : List ℕ → ℕ → Found → Found
-anti_up_to l s first = where_found first At (cond (anti_at l s) (At s) Nothing)
+unfoldable pub anti_up_to : List ℕ → ℕ → Option ℕ → Option ℕ
+anti_up_to l s first = where_found first Some (cond (anti_at l s) (Some s) None)
 
 -- a survivor has its uid in range, one of the queue its order number
 pub record Numbered (l : List ℕ) (n w : ℕ) (flags : List Bool) : Type 0 where
@@ -73,5 +70,5 @@ pub record Judged (wk l t : List ℕ) (n w : ℕ) : Type 0 where
   pub notes : threads_ok (length t) n ≡ true
 
 -- what is left of a call then
-unfoldable pub recover_sized : Store → ℕ → ℕ → Outcome Recovery
-recover_sized st n w = after_check (slots_check st.persistent n w) Declined st (freeing (next_freed st.persistent n) st n w)
+unfoldable pub recover_sized : Store → ℕ → ℕ → Outcome (Result Recovery Refusal)
+recover_sized st n w = after_check (slots_check st.persistent n w) Err st (freeing (next_freed st.persistent n) st n w)

@@ -1,6 +1,6 @@
 -- A step of recovery keeps acceptance and the survivors and lowers the number of headers that are not zeros; at "done" just survivors are left.
 -- The slot it frees is covered (`Freed`): a stale one by what beat it, a kept DELETE because no payload of its uid is left.
-use Rattle.std.specs.Prelude.{ℕ, ◌+◌, ◌<◌, ◌≡◌, refl, Bool, true, false, not, ◌≢◌, List, length}
+use Rattle.std.specs.Prelude.{ℕ, ◌+◌, ◌<◌, ◌≡◌, refl, Bool, true, false, not, ◌≢◌, List, length, Option, Some, None, Ok}
 use Rattle.std.proofs.Common.{sym, ◌∙◌, arith}
 use Rattle.std.proofs.lemmas.Bool.{not-true, not-false}
 use Rattle.std.proofs.Math.Decide.{dec_lt}
@@ -8,9 +8,6 @@ use Rattle.search.specs.Bools.{never, upheld, refuted, same_test, not-is-true, a
 use Rattle.search.specs.First.{first_of, First, found_first, found_nothing}
 use Rattle.search.specs.Some.{some_at, some_same}
 use Rattle.search.specs.Count.{count, count_down}
-use Rattle.search.specs.declared.Found.{Found}
-use Rattle.search.specs.declared.Found.TheVariants.{At, Nothing}
-use Rattle.reply.specs.declared.Check.TheVariants.{Accepted}
 use Rattle.image.specs.Layout.{is_blank, has_zero, is_filled, header, contents, value_at, slots_of, width_of, clock_of, free_header}
 use Rattle.image.specs.Line.{header_line, store_line}
 use Rattle.image.specs.declared.header.Header.{Header}
@@ -91,19 +88,19 @@ anti-left l n s none f =
       nonzero = filled-nonzero l s (kept-filled (clock_of l) (header l s) a.is-kept);
     }
 
-next-left : (l : List ℕ) (n s : ℕ) → next_freed l n ≡ At s → Left l n s
+next-left : (l : List ℕ) (n s : ℕ) → next_freed l n ≡ Some s → Left l n s
 unfolding next_freed
 next-left l n s e = go (first_of (stale l n) n) refl
   where
-    go : (f : Found) → first_of (stale l n) n ≡ f → Left l n s
-    go (At t) q = stale-left l n s (found_first (stale l n) n (q ∙ (rw q at e)))
-    go Nothing q = anti-left l n s (found_nothing (stale l n) n q) (found_first (anti_at l) n (rw q at e))
+    go : (f : Option ℕ) → first_of (stale l n) n ≡ f → Left l n s
+    go (Some t) q = stale-left l n s (found_first (stale l n) n (q ∙ (rw q at e)))
+    go None q = anti-left l n s (found_nothing (stale l n) n q) (found_first (anti_at l) n (rw q at e))
 
-pub next-spent : (l : List ℕ) (n s : ℕ) → next_freed l n ≡ At s → Spent l n s
+pub next-spent : (l : List ℕ) (n s : ℕ) → next_freed l n ≡ Some s → Spent l n s
 next-spent l n s e = (next-left l n s e).spent
 
 -- ---- a spent slot's header becomes one that counts as free: four zeros, or what a cut leaves of that store
-module _ (l : List ℕ) (s : ℕ) (g : Header) (z : has_zero g ≡ true) (ok : image_check l ≡ Accepted) (p : Spent l (slots_of l) s) where
+module _ (l : List ℕ) (s : ℕ) (g : Header) (z : has_zero g ≡ true) (ok : image_check l ≡ Ok tt) (p : Spent l (slots_of l) s) where
   fits : HeaderFits l (slots_of l) s
   fits = header-fits (accepted-says l ok).sized p.below
 
@@ -129,7 +126,7 @@ module _ (l : List ℕ) (s : ℕ) (g : Header) (z : has_zero g ≡ true) (ok : i
       }
 
 -- ---- one step
-pub step-lowers : (l : List ℕ) (s : ℕ) → image_check l ≡ Accepted → next_freed l (slots_of l) ≡ At s
+pub step-lowers : (l : List ℕ) (s : ℕ) → image_check l ≡ Ok tt → next_freed l (slots_of l) ≡ Some s
     → count (nonzero_at l) (slots_of l) ≡ count (nonzero_at (store_line l (header_line s free_header))) (slots_of l) + 1
 unfolding nonzero_at is_blank
 step-lowers l s ok next =
@@ -158,8 +155,8 @@ module _ {l l' : List ℕ} (same : SameSurvivors l l') where
       let below = some_same (survives_as l' n w k) (survives_as l n w k) s (λ t u. survives-same k t (omega arith)) in
       rw (same.survivors s h) (and_same _ (λ v. rw (same.names s h v, below)))
 
-pub free-accepted : (l : List ℕ) (s : ℕ) (g : Header) → has_zero g ≡ true → image_check l ≡ Accepted → Spent l (slots_of l) s
-    → image_check (store_line l (header_line s g)) ≡ Accepted
+pub free-accepted : (l : List ℕ) (s : ℕ) (g : Header) → has_zero g ≡ true → image_check l ≡ Ok tt → Spent l (slots_of l) s
+    → image_check (store_line l (header_line s g)) ≡ Ok tt
 free-accepted l s g z ok p =
     let same = free-keeps l s g z ok p in
     let f = freed l s g z ok p in
@@ -181,15 +178,15 @@ free-accepted l s g z ok p =
     }
 
 -- ---- where nothing is left to free
-none-next : (l : List ℕ) (n : ℕ) → next_freed l n ≡ Nothing → (s : ℕ) → s < n → (stale l n s ≡ false) × (anti_at l s ≡ false)
+none-next : (l : List ℕ) (n : ℕ) → next_freed l n ≡ None → (s : ℕ) → s < n → (stale l n s ≡ false) × (anti_at l s ≡ false)
 unfolding next_freed
 none-next l n e s h = go (first_of (stale l n) n) refl
   where
-    go : (f : Found) → first_of (stale l n) n ≡ f → (stale l n s ≡ false) × (anti_at l s ≡ false)
-    go (At t) q = let y : At t ≡ Nothing = rw q at e in let z : ◌≡◌ {A = ℕ} 0 1 = cc in absurd (omega arith)
-    go Nothing q = (found_nothing (stale l n) n q s h, found_nothing (anti_at l) n (rw q at e) s h)
+    go : (f : Option ℕ) → first_of (stale l n) n ≡ f → (stale l n s ≡ false) × (anti_at l s ≡ false)
+    go (Some t) q = let y : Some t ≡ None = rw q at e in let z : ◌≡◌ {A = ℕ} 0 1 = cc in absurd (omega arith)
+    go None q = (found_nothing (stale l n) n q s h, found_nothing (anti_at l) n (rw q at e) s h)
 
-pub done-survivors : (l : List ℕ) → next_freed l (slots_of l) ≡ Nothing → (s : ℕ) → s < slots_of l → survivor l (slots_of l) s ≡ nonzero_at l s
+pub done-survivors : (l : List ℕ) → next_freed l (slots_of l) ≡ None → (s : ℕ) → s < slots_of l → survivor l (slots_of l) s ≡ nonzero_at l s
 unfolding survivor survives wins
 done-survivors l e s h =
     let n = slots_of l in
@@ -199,12 +196,12 @@ done-survivors l e s h =
     (λ f. upheld (survivor l n s) (λ d. never _ (none-stale l n s none.0 f d) none.1))
 
 -- ---- survivors have names, and different ones
-pub survivor-named : (l : List ℕ) → image_check l ≡ Accepted → (s : ℕ) → s < slots_of l → survivor l (slots_of l) s ≡ true → Named (name_at l (slots_of l) (width_of l) s)
+pub survivor-named : (l : List ℕ) → image_check l ≡ Ok tt → (s : ℕ) → s < slots_of l → survivor l (slots_of l) s ≡ true → Named (name_at l (slots_of l) (width_of l) s)
 unfolding nameless
 survivor-named l ok s h v =
     misnamed-false (name_at l (slots_of l) (width_of l) s) (refuted _ (λ e. never (nameless l (slots_of l) (width_of l) s) (and_both v e) ((accepted-says l ok).sound.named s h)))
 
-name-once : (l : List ℕ) → image_check l ≡ Accepted → (s t : ℕ) → s < slots_of l → t < s → survivor l (slots_of l) s ≡ true → survivor l (slots_of l) t ≡ true
+name-once : (l : List ℕ) → image_check l ≡ Ok tt → (s t : ℕ) → s < slots_of l → t < s → survivor l (slots_of l) s ≡ true → survivor l (slots_of l) t ≡ true
     → name_at l (slots_of l) (width_of l) t ≢ name_at l (slots_of l) (width_of l) s
 unfolding name_below survives_as
 name-once l ok s t h u v x e =
@@ -213,7 +210,7 @@ name-once l ok s t h u v x e =
     let below = some_at (survives_as l n w (name_at l n w s)) s t u (and_both x (name-same _ _ e)) in
     never (name_below l n w s) (and_both v below) ((accepted-says l ok).sound.names s h)
 
-pub survivors-apart : (l : List ℕ) → image_check l ≡ Accepted → (s t : ℕ) → s < slots_of l → t < slots_of l → s ≢ t → survivor l (slots_of l) s ≡ true
+pub survivors-apart : (l : List ℕ) → image_check l ≡ Ok tt → (s t : ℕ) → s < slots_of l → t < slots_of l → s ≢ t → survivor l (slots_of l) s ≡ true
     → survivor l (slots_of l) t ≡ true → name_at l (slots_of l) (width_of l) s ≢ name_at l (slots_of l) (width_of l) t
 survivors-apart l ok s t h k d v x e =
     elim (dec_lt s t) [

@@ -1,5 +1,5 @@
 // One step of recover: check, free one header, or finish.
-#![tactic(auto)]
+#![tactic(auto, using(crate::specs::Exits::steps))]
 
 ghost use Rattle.std.specs.Prelude.{◌≡◌, not, length};
 ghost use Rattle.search.specs.Largest.{raised};
@@ -11,16 +11,14 @@ ghost use Rattle.survival.specs.Requires.{FlagAt, HeaderOf, Marked, SlotMarked};
 ghost use Rattle.recovery.specs.Requires.{uid_of, recover_entry_check, anti_up_to, finished, numbers_of, notes_over, Numbered, Noting, Finishing, Judged, recover_sized};
 
 use image::header::Header;
-use reply::{Check, Refusal};
-use search::Found;
+use reply::Refusal;
 use transient::sizes::Sizes;
 
 // One recover call's answer: "went on", "done", or a refusal.
-#[derive(Clone, Copy)]
+#[derive(Clone, Copy, Debug, PartialEq, Eq)]
 pub enum Recovery {
     WentOn,
     Done,
-    Declined(Refusal),
 }
 
 fn anti_at(img: &[u32], n: usize, s: usize) -> bool
@@ -44,7 +42,7 @@ fn stale_at(img: &[u32], flags: &[bool; 1024], n: usize, s: usize) -> bool
     ensures { result ≡ stale img.now n s }
 {
     if dies_at(img, flags, n, s) {
-        if image::header::blank(image::header::header_at(img, n, s)) {
+        if image::header::header_at(img, n, s).is_blank() {
             return false;
         }
         if anti_at(img, n, s) { false } else { true }
@@ -54,39 +52,37 @@ fn stale_at(img: &[u32], flags: &[bool; 1024], n: usize, s: usize) -> bool
 }
 
 // The first kept DELETE of those up to slot `s`, after the first of those below it.
-fn anti_up_to(img: &[u32], n: usize, s: usize, first: Found) -> Found
+fn anti_up_to(img: &[u32], n: usize, s: usize, first: Option<usize>) -> Option<usize>
     requires { HeaderOf img.now n s }
     ensures { result ≡ anti_up_to img.now s first }
 {
     match first {
-        Found::At(t) => Found::At(t),
-        Found::Nothing => {
+        Some(t) => Some(t),
+        None => {
             if anti_at(img, n, s) {
-                return Found::At(s);
+                return Some(s);
             }
-            Found::Nothing
+            None
         }
     }
 }
 
 // The header to free next: those that nothing needs first, then the kept DELETEs, which cover payloads until these are gone. A survivor
 // is neither.
-fn next_freed(img: &[u32], flags: &[bool; 1024], n: usize) -> Found
+#[tactic(auto, using(crate::specs::Exits::frees))]
+fn next_freed(img: &[u32], flags: &[bool; 1024], n: usize) -> Option<usize>
     requires { Marked img.now n flags.now }
     ensures { result ≡ next_freed img.now n }
 {
-    let mut anti = Found::Nothing;
-    let mut s = 0;
-    while s < n {
-        if dies_at(img, flags, n, s) {
-            if stale_at(img, flags, n, s) {
-                return Found::At(s);
-            }
-            anti = anti_up_to(img, n, s, anti);
-            s += 1;
-        } else {
-            s += 1;
+    let mut anti = None;
+    for s in 0..n {
+        if !dies_at(img, flags, n, s) {
+            continue;
         }
+        if stale_at(img, flags, n, s) {
+            return Some(s);
+        }
+        anti = anti_up_to(img, n, s, anti);
     }
     anti
 }
@@ -132,11 +128,9 @@ fn next_numbers(img: &[u32], flags: &[bool; 1024], n: usize, w: usize) -> Number
 {
     let mut uid = 0;
     let mut order = 0;
-    let mut s = 0;
-    while s < n {
+    for s in 0..n {
         uid = raise_uid(img, flags, n, s, uid);
         order = raise_order(img, flags, n, w, s, order);
-        s += 1;
     }
     Numbers {
         uid: uid + 1,
@@ -150,7 +144,7 @@ fn set_notes(image: &[u32], transient: &mut [u32], n: usize, w: usize, next: Num
     ensures { transient.new ≡ notes_over image.now (length transient.old) n w next }
 {
     let t = transient::notes::threads(transient.len(), n);
-    transient::notes::set_blank(transient, image::shape::narrow(n), next.uid, next.order);
+    transient::notes::set_blank(transient, n as u32, next.uid, next.order);
     index::rebuild(image, transient, Sizes { n, w, t });
 }
 
@@ -178,37 +172,37 @@ fn free_next(
     flags: &[bool; 1024],
     n: usize,
     w: usize,
-) -> Recovery
+) -> Result<Recovery, Refusal>
     requires { Finishing working.old persistent.old transient.old flags.now n w }
     ensures { outcome result working.new persistent.new transient.new ≡ freeing (next_freed persistent.old n) (store working.old persistent.old transient.old) n w }
 {
     match next_freed(persistent, flags, n) {
-        Found::At(s) => {
+        Some(s) => {
             image::header::set_header(persistent, n, s, Header::free());
-            Recovery::WentOn
+            Ok(Recovery::WentOn)
         }
-        Found::Nothing => {
+        None => {
             finish(working, persistent, transient, flags, n, w);
-            Recovery::Done
+            Ok(Recovery::Done)
         }
     }
 }
 
 // Refusals 1 and 2; of what recover fills, only the lengths are judged.
-fn check_entry(working: usize, persistent: &[u32], transient: usize) -> Check
+fn check_entry(working: usize, persistent: &[u32], transient: usize) -> Result<(), Refusal>
     ensures { result ≡ recover_entry_check working persistent.now transient }
 {
     if image::shape::shape_ok(persistent) {
         if working != persistent.len() {
-            return Check::Refused(Refusal::BadSizes);
+            return Err(Refusal::BadSizes);
         }
-        if transient::notes::threads_ok(transient, image::shape::wide(persistent[0])) {
+        if transient::notes::threads_ok(transient, persistent[0] as usize) {
             acceptance::check_head(persistent)
         } else {
-            Check::Refused(Refusal::BadSizes)
+            Err(Refusal::BadSizes)
         }
     } else {
-        Check::Refused(Refusal::BadSizes)
+        Err(Refusal::BadSizes)
     }
 }
 
@@ -219,27 +213,25 @@ fn recover_sized(
     transient: &mut [u32],
     n: usize,
     w: usize,
-) -> Recovery
+) -> Result<Recovery, Refusal>
     requires { Judged working.old persistent.old transient.old n w }
     ensures { outcome result working.new persistent.new transient.new ≡ recover_sized (store working.old persistent.old transient.old) n w }
 {
     let mut flags = [false; 1024];
-    match acceptance::check_slots(persistent, &mut flags, n, w) {
-        Check::Refused(r) => Recovery::Declined(r),
-        Check::Accepted => free_next(working, persistent, transient, &flags, n, w),
-    }
+    acceptance::check_slots(persistent, &mut flags, n, w)?;
+    free_next(working, persistent, transient, &flags, n, w)
 }
 
 // One recover call, whatever working and transient hold.
-pub fn recover(working: &mut [u32], persistent: &mut [u32], transient: &mut [u32]) -> Recovery
+pub fn recover(
+    working: &mut [u32],
+    persistent: &mut [u32],
+    transient: &mut [u32],
+) -> Result<Recovery, Refusal>
     ensures { outcome result working.new persistent.new transient.new ≡ recover (store working.old persistent.old transient.old) }
 {
-    match check_entry(working.len(), persistent, transient.len()) {
-        Check::Refused(r) => Recovery::Declined(r),
-        Check::Accepted => {
-            let n = image::shape::wide(persistent[0]);
-            let w = image::shape::wide(persistent[1]);
-            recover_sized(working, persistent, transient, n, w)
-        }
-    }
+    check_entry(working.len(), persistent, transient.len())?;
+    let n = persistent[0] as usize;
+    let w = persistent[1] as usize;
+    recover_sized(working, persistent, transient, n, w)
 }

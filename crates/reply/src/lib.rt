@@ -1,11 +1,11 @@
-// Why a call declines, and the verdict that every check gives.
+// Why a call declines. A check answers `Result<(), Refusal>`.
 #![tactic(auto)]
 
 ghost use Rattle.std.specs.Prelude.{◌≡◌};
 ghost use Rattle.reply.specs.Refusals.{refusal_number, declined_number};
 
 // One case for each number of 01's table "Where each call can decline".
-#[derive(Clone, Copy)]
+#[derive(Clone, Copy, Debug, PartialEq, Eq)]
 pub enum Refusal {
     // N, W or T out of range, a wrong length, or a note that names no slot
     BadSizes,
@@ -35,34 +35,30 @@ pub enum Refusal {
     QueueEmpty,
 }
 
-#[derive(Clone, Copy)]
-pub enum Check {
-    Accepted,
-    Refused(Refusal),
-}
+impl From<Refusal> for u32 {
+    ghost from_gives = { λ r n. n ≡ refusal_number r };
 
-// 01's number of a refusal.
-pub fn number(r: Refusal) -> u32
-    ensures { result ≡ refusal_number r }
-{
-    match r {
-        Refusal::BadSizes => 1,
-        Refusal::BadClock => 2,
-        Refusal::BadSlot => 3,
-        Refusal::Duplicate => 4,
-        Refusal::NoThread => 5,
-        Refusal::AlreadyOpen => 6,
-        Refusal::NotOpen => 7,
-        Refusal::BadArgument => 8,
-        Refusal::Newer => 9,
-        Refusal::NoJob => 10,
-        Refusal::JobExists => 11,
-        Refusal::NoUid => 12,
-        Refusal::Full => 13,
-        Refusal::StillOpen => 14,
-        Refusal::LastEpoch => 15,
-        Refusal::NoWord => 16,
-        Refusal::QueueEmpty => 17,
+    // 01's number of a refusal.
+    fn from(r: Refusal) -> u32 {
+        match r {
+            Refusal::BadSizes => 1,
+            Refusal::BadClock => 2,
+            Refusal::BadSlot => 3,
+            Refusal::Duplicate => 4,
+            Refusal::NoThread => 5,
+            Refusal::AlreadyOpen => 6,
+            Refusal::NotOpen => 7,
+            Refusal::BadArgument => 8,
+            Refusal::Newer => 9,
+            Refusal::NoJob => 10,
+            Refusal::JobExists => 11,
+            Refusal::NoUid => 12,
+            Refusal::Full => 13,
+            Refusal::StillOpen => 14,
+            Refusal::LastEpoch => 15,
+            Refusal::NoWord => 16,
+            Refusal::QueueEmpty => 17,
+        }
     }
 }
 
@@ -70,5 +66,5 @@ pub fn number(r: Refusal) -> u32
 pub fn declined(r: Refusal) -> u64
     ensures { result ≡ declined_number r }
 {
-    4294967296 + (number(r) as u64)
+    4294967296 + u64::from(u32::from(r))
 }

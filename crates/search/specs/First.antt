@@ -1,24 +1,22 @@
 -- The first index that passes a test: its laws, and the one invariant of every loop that looks for it.
 use Prim.Native.Nat.{ℕ, zero, suc, ◌+◌, ◌-◌, ◌≤◌, ◌<◌}
-use Rattle.std.specs.Prelude.{◌≡◌, refl, Bool, true, false, cond, ◌⊎◌}
+use Rattle.std.specs.Prelude.{◌≡◌, refl, Bool, true, false, cond, ◌⊎◌, Option, Some, None}
 use Rattle.std.proofs.Common.{sym, ◌∙◌, inl, inr, eq-or-lt_of_le}
 use Rattle.std.proofs.Math.Logic.{⊎_elim}
 use Rattle.std.proofs.Math.Dec.{ltb}
 use borrow.Author.Tests.{lt-ltb, le-ltb, ltb-true, ltb-false}
 use native.Mathlib.Omega.{arith}
 use Rattle.search.specs.Bools.{cases}
-use Rattle.search.specs.declared.Found.{Found}
-use Rattle.search.specs.declared.Found.TheVariants.{At, Nothing}
 
 -- by what a search found
-abbrev pub where_found : {A : Type 0} → Found → (ℕ → A) → A → A
-where_found (At s) at nothing = at s
-where_found Nothing at nothing = nothing
+abbrev pub where_found : {A B : Type 0} → Option B → (B → A) → A → A
+where_found (Some s) at nothing = at s
+where_found None at nothing = nothing
 
 -- the least index below n that passes, as an answer
-unfoldable pub first_of : (ℕ → Bool) → ℕ → Found
-first_of p zero = Nothing
-first_of p (suc n) = where_found (first_of p n) At (cond (p n) (At n) Nothing)
+unfoldable pub first_of : (ℕ → Bool) → ℕ → Option ℕ
+first_of p zero = None
+first_of p (suc n) = where_found (first_of p n) Some (cond (p n) (Some n) None)
 
 -- ---- the same from the first index on, as a loop goes
 -- the least index of [i, i + k) that passes, else i + k
@@ -27,8 +25,8 @@ first p i zero = i
 first p i (suc k) = cond (p i) i (first p (i + 1) k)
 
 -- an index r below n as an answer
-abbrev pub found : ℕ → ℕ → Found
-found n r = cond (ltb r n) (At r) Nothing
+abbrev pub found : ℕ → ℕ → Option ℕ
+found n r = cond (ltb r n) (Some r) None
 
 -- from i on: at a hit, at a miss, at the end
 module _ (p : ℕ → Bool) where
@@ -134,10 +132,10 @@ sought-pass {p} {n} {i} (suc d) s h f =
     rw e (sought-next (sought-pass d s (omega arith) (λ j a b. f j a (omega arith))) (omega arith) refl (f (i + d) (omega arith) (omega arith)))
 
 -- a loop's two answers
-pub found-hit : {p : ℕ → Bool} {n i : ℕ} {r : Bool} → Sought p n i → i < n → r ≡ p i → r ≡ true → At i ≡ first_of p n
+pub found-hit : {p : ℕ → Bool} {n i : ℕ} {r : Bool} → Sought p n i → i < n → r ≡ p i → r ≡ true → Some i ≡ first_of p n
 found-hit {p} {n} {i} s h e f = rw (first-of p n, sought-hit s h e f, lt-ltb i n h)
 
-pub found-end : {p : ℕ → Bool} {n i : ℕ} → Sought p n i → n ≤ i → Nothing ≡ first_of p n
+pub found-end : {p : ℕ → Bool} {n i : ℕ} → Sought p n i → n ≤ i → None ≡ first_of p n
 found-end {p} {n} {i} s h = rw (first-of p n, sought-end s h, le-ltb n n (omega arith))
 
 -- what an answer says: a slot found is below n and the first that passes; where none is found, none passes
@@ -146,11 +144,11 @@ pub record First (p : ℕ → Bool) (n s : ℕ) : Type 0 where
   pub passes : p s ≡ true
   pub before : (j : ℕ) → j < s → p j ≡ false
 
-pub found_first : (p : ℕ → Bool) (n : ℕ) {s : ℕ} → first_of p n ≡ At s → First p n s
+pub found_first : (p : ℕ → Bool) (n : ℕ) {s : ℕ} → first_of p n ≡ Some s → First p n s
 found_first p n {s} e =
     ⊎_elim
     (λ (t : ltb (first p 0 n) n ≡ true).
-    let q : At (first p 0 n) ≡ At s = rw (first-of p n, t) at e in
+    let q : Some (first p 0 n) ≡ Some s = rw (first-of p n, t) at e in
     let z : first p 0 n ≡ s = cc in
     let u : first p 0 n < n = ltb-true _ _ t in
     record {
@@ -159,16 +157,16 @@ found_first p n {s} e =
       before = λ j h. first-before p n 0 j (omega arith) (omega arith);
     })
     (λ (f : ltb (first p 0 n) n ≡ false).
-    let q : Nothing ≡ At s = rw (first-of p n, f) at e in
+    let q : None ≡ Some s = rw (first-of p n, f) at e in
     let z : ◌≡◌ {A = ℕ} 0 1 = cc in
     absurd (omega arith))
     (cases (ltb (first p 0 n) n))
 
-pub found_nothing : (p : ℕ → Bool) (n : ℕ) → first_of p n ≡ Nothing → (j : ℕ) → j < n → p j ≡ false
+pub found_nothing : (p : ℕ → Bool) (n : ℕ) → first_of p n ≡ None → (j : ℕ) → j < n → p j ≡ false
 found_nothing p n e j h =
     ⊎_elim
     (λ (t : ltb (first p 0 n) n ≡ true).
-    let q : At (first p 0 n) ≡ Nothing = rw (first-of p n, t) at e in
+    let q : Some (first p 0 n) ≡ None = rw (first-of p n, t) at e in
     let z : ◌≡◌ {A = ℕ} 0 1 = cc in
     absurd (omega arith))
     (λ (f : ltb (first p 0 n) n ≡ false).
@@ -182,9 +180,9 @@ first_of-same p q zero h = refl
 first_of-same p q (suc n) h = rw (first_of-same p q n (λ j l. h j (omega arith)), h n (omega arith))
 
 -- the two answers, told apart
-pub found-cases : (f : Found) → ((s : ℕ) × (f ≡ At s)) ⊎ (f ≡ Nothing)
-found-cases (At s) = inl (s, refl)
-found-cases Nothing = inr refl
+pub found-cases : (f : Option ℕ) → ((s : ℕ) × (f ≡ Some s)) ⊎ (f ≡ None)
+found-cases (Some s) = inl (s, refl)
+found-cases None = inr refl
 
 -- ---- the first from an index on: the invariant of a loop that has passed those up to i, and its answers
 pub record Seeking (p : ℕ → Bool) (n from i : ℕ) : Type 0 where

@@ -1,5 +1,5 @@
 -- A search around a table of n, from the slot after the last one, round past the end: it meets every slot once.
-use Rattle.std.specs.Prelude.{ℕ, zero, suc, ◌+◌, ◌-◌, ◌≤◌, ◌<◌, refl, Bool, true, false, cond, leb, ltb}
+use Rattle.std.specs.Prelude.{ℕ, zero, suc, ◌+◌, ◌-◌, ◌≤◌, ◌<◌, refl, Bool, true, false, cond, leb, ltb, Option, Some, None}
 use Rattle.std.proofs.Math.Path.{◌≡◌}
 use Rattle.std.proofs.Common.{ap, ◌∙◌, lt-ltb, le-ltb, le-leb, add-one}
 use Rattle.std.proofs.Math.Logic.{inl, inr}
@@ -9,16 +9,14 @@ use native.Mathlib.Omega.{arith}
 use Rattle.search.specs.Bools.{never, flag}
 use Rattle.search.specs.Count.{count, count-more, count_same, count-zero}
 use Rattle.search.specs.First.{where_found, first_of, First, found_first, found_nothing, found-cases, found-hit, found-end, Sought, sought-start, sought-next}
-use Rattle.search.specs.declared.Found.{Found}
-use Rattle.search.specs.declared.Found.TheVariants.{At, Nothing}
 
 -- the slot k steps after the one that follows `last`
 unfoldable pub ring_slot : ℕ → ℕ → ℕ → ℕ
 ring_slot n last k = cond (ltb (last + 1 + k) n) (last + 1 + k) (last + 1 + k - n)
 
 -- the first slot that passes, within the given number of steps
-unfoldable pub first_round : (ℕ → Bool) → ℕ → ℕ → ℕ → Found
-first_round p n last steps = where_found (first_of (λ k. p (ring_slot n last k)) steps) (λ k. At (ring_slot n last k)) Nothing
+unfoldable pub first_round : (ℕ → Bool) → ℕ → ℕ → ℕ → Option ℕ
+first_round p n last steps = where_found (first_of (λ k. p (ring_slot n last k)) steps) (λ k. Some (ring_slot n last k)) None
 
 -- ---- the slots that are met
 module _ (n last k : ℕ) where
@@ -85,33 +83,33 @@ record Stepped (p : ℕ → Bool) (n last steps s : ℕ) : Type 0 where
   is : ring_slot n last at ≡ s
 
 module _ (p : ℕ → Bool) (n last steps : ℕ) where
-  stepped : (s : ℕ) → first_round p n last steps ≡ At s → Stepped p n last steps s
+  stepped : (s : ℕ) → first_round p n last steps ≡ Some s → Stepped p n last steps s
   unfolding first_round
   stepped s e =
       elim (found-cases (first_of (λ k. p (ring_slot n last k)) steps)) [
-        | inl (k, f) ↦ let g : At (ring_slot n last k) ≡ At s = rw f at e in
+        | inl (k, f) ↦ let g : Some (ring_slot n last k) ≡ Some s = rw f at e in
             record { at = k; first = found_first _ _ f; is = cc }
-        | inr f ↦ let g : Nothing ≡ At s = rw f at e in
+        | inr f ↦ let g : None ≡ Some s = rw f at e in
             let z : ◌≡◌ {A = ℕ} 0 1 = cc in absurd (omega arith)
       ]
 
-  missed : first_round p n last steps ≡ Nothing → (k : ℕ) → k < steps → p (ring_slot n last k) ≡ false
+  missed : first_round p n last steps ≡ None → (k : ℕ) → k < steps → p (ring_slot n last k) ≡ false
   unfolding first_round
   missed e =
       elim (found-cases (first_of (λ k. p (ring_slot n last k)) steps)) [
-        | inl (k, f) ↦ let g : At (ring_slot n last k) ≡ Nothing = rw f at e in
+        | inl (k, f) ↦ let g : Some (ring_slot n last k) ≡ None = rw f at e in
             let z : ◌≡◌ {A = ℕ} 0 1 = cc in absurd (omega arith)
         | inr f ↦ found_nothing _ _ f
       ]
 
 -- a slot found is in the table and passes
-pub round-found : (p : ℕ → Bool) (n last steps s : ℕ) → last < n → steps ≤ n → first_round p n last steps ≡ At s → (s < n) × (p s ≡ true)
+pub round-found : (p : ℕ → Bool) (n last steps s : ℕ) → last < n → steps ≤ n → first_round p n last steps ≡ Some s → (s < n) × (p s ≡ true)
 round-found p n last steps s h l e =
     let a = stepped p n last steps s e in
     let b : a.at < steps = a.first.below in
     (omega (arith, ring-below n last a.at h (omega arith)), rw a.is at a.first.passes)
 
-pub round-one : (p : ℕ → Bool) (n last s : ℕ) → last < n → first_round p n last n ≡ At s → leb 1 (count p n) ≡ true
+pub round-one : (p : ℕ → Bool) (n last s : ℕ) → last < n → first_round p n last n ≡ Some s → leb 1 (count p n) ≡ true
 round-one p n last s h e =
     le-leb 1 (count p n) (omega (arith, ring-count p n last h, count-some (stepped p n last n s e).first))
 
@@ -123,11 +121,11 @@ count-beside p n s h t =
     let f : flag (p (ring_slot n s (n - 1))) ≡ 1 = rw (r, t) in
     omega (arith, ring-count p n s h, rw e at (count-more (λ k. p (ring_slot n s k)) (n - 1)))
 
-pub round-another : (p : ℕ → Bool) (n s u : ℕ) → s < n → p s ≡ true → first_round p n s (n - 1) ≡ At u → leb 2 (count p n) ≡ true
+pub round-another : (p : ℕ → Bool) (n s u : ℕ) → s < n → p s ≡ true → first_round p n s (n - 1) ≡ Some u → leb 2 (count p n) ≡ true
 round-another p n s u h t e =
     le-leb 2 (count p n) (omega (arith, count-beside p n s h t, count-some (stepped p n s (n - 1) u e).first))
 
-pub round-alone : (p : ℕ → Bool) (n s : ℕ) → s < n → p s ≡ true → first_round p n s (n - 1) ≡ Nothing → leb 2 (count p n) ≡ false
+pub round-alone : (p : ℕ → Bool) (n s : ℕ) → s < n → p s ≡ true → first_round p n s (n - 1) ≡ None → leb 2 (count p n) ≡ false
 round-alone p n s h t e =
     lt-leb 2 (count p n) (omega (arith, count-beside p n s h t, count_none _ (n - 1) (missed p n s (n - 1) e)))
 
@@ -142,11 +140,11 @@ round-start p n last steps = record { low = omega arith; sought = sought-start _
 pub round-next : {p : ℕ → Bool} {n last steps k s : ℕ} {r : Bool} → Rounding p n last steps k → k < steps → s ≡ ring_slot n last k → r ≡ p s → r ≡ false → Rounding p n last steps (k + 1)
 round-next {p} z h e t f = record { low = omega arith; sought = sought-next z.sought h (t ∙ ap p e) f }
 
-pub round-hit : {p : ℕ → Bool} {n last steps k s : ℕ} {r : Bool} → Rounding p n last steps k → k < steps → s ≡ ring_slot n last k → r ≡ p s → r ≡ true → At s ≡ first_round p n last steps
+pub round-hit : {p : ℕ → Bool} {n last steps k s : ℕ} {r : Bool} → Rounding p n last steps k → k < steps → s ≡ ring_slot n last k → r ≡ p s → r ≡ true → Some s ≡ first_round p n last steps
 unfolding first_round
 round-hit {p} z h e t f = rw (← found-hit z.sought h (t ∙ ap p e) f, e)
 
-pub round-end : {p : ℕ → Bool} {n last steps k : ℕ} → Rounding p n last steps k → steps ≤ k → Nothing ≡ first_round p n last steps
+pub round-end : {p : ℕ → Bool} {n last steps k : ℕ} → Rounding p n last steps k → steps ≤ k → None ≡ first_round p n last steps
 unfolding first_round
 round-end z h = rw (← found-end z.sought h)
 

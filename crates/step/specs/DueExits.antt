@@ -1,5 +1,5 @@
 -- The ways out of the search for what is due.
-use Rattle.std.specs.Prelude.{ℕ, ◌+◌, ◌-◌, ◌≤◌, ◌<◌, ◌≡◌, Bool, true, false, not, List, leb, eqb}
+use Rattle.std.specs.Prelude.{ℕ, ◌+◌, ◌-◌, ◌≤◌, ◌<◌, ◌≡◌, Bool, true, false, not, List, leb, eqb, Option, Some, None, min}
 use Rattle.std.proofs.Math.Path.{refl, sym}
 use Rattle.std.proofs.Common.{◌∙◌}
 use Rattle.std.proofs.Math.Bool.{and-true, and-false}
@@ -8,10 +8,8 @@ use native.Mathlib.Omega.{arith}
 use Rattle.search.specs.Bools.{and_left, and_right}
 use Rattle.search.specs.First.{Sought, sought-start, sought-next}
 use Rattle.search.specs.From.{first_from, From, from_start, from_end, from-pass, within-hit, within_none, froms}
-use Rattle.search.specs.Rounds.{lesser, Onward, onward, onward-less}
+use Rattle.search.specs.Rounds.{Onward, onward, onward-less}
 use Rattle.search.specs.Some.{Seen, some-none, some-hit, some_end, seen_start, seen-hit, seen-miss, seen_end}
-use Rattle.search.specs.declared.Found.{Found}
-use Rattle.search.specs.declared.Found.TheVariants.{At, Nothing}
 use Rattle.image.specs.declared.header.Header.{Header}
 use Rattle.image.specs.Layout.{has_zero, is_payload, header}
 use Rattle.image.specs.Requires.{HeaderFits, slot, header-fits}
@@ -67,7 +65,7 @@ module _ (z : Sizes) (wk tr : List ℕ) (c s : ℕ) where
 
 -- ---- one by one
 pub among-start : (c : ℕ) {wk tr : List ℕ} {z : Sizes} {p to : ℕ} → Among wk tr z p to → From (due z (table wk tr) c) to p p
-among-start c {wk} {tr} {z} {p} {to} y = from_start (due z (table wk tr) c) to p y.some
+among-start c {wk} {tr} {z} {p} {to} y = from_start (due z (table wk tr) c) to p (omega (arith, y.some))
 
 pub among-slot : {wk tr : List ℕ} {z : Sizes} {p to s : ℕ} → Among wk tr z p to → s < to → ShapedSlot wk tr z s
 among-slot y h = shaped-slot y.shaped (omega (arith, y.top))
@@ -154,7 +152,7 @@ not-due z wk tr c m h r k =
 
 -- ---- the walk, sixteen a round
 pub looking-start : {wk tr : List ℕ} {z : Sizes} {c p : ℕ} → Looking wk tr z c p → From (due z (table wk tr) c) z.n p p
-looking-start {wk} {tr} {z} {c} {p} y = from_start (due z (table wk tr) c) z.n p y.slot.slot.within
+looking-start {wk} {tr} {z} {c} {p} y = from_start (due z (table wk tr) c) z.n p (omega (arith, y.slot.slot.within))
 
 module _ {wk tr : List ℕ} {z : Sizes} {c p s : ℕ} (y : Looking wk tr z c p) (f : From (due z (table wk tr) c) z.n p s) where
   -- past sixteen
@@ -173,7 +171,7 @@ module _ {wk tr : List ℕ} {z : Sizes} {c p s : ℕ} (y : Looking wk tr z c p) 
       not-due z wk tr c m y.clock (rw i at (some-none (is_retired z tr (c - 2) s) 16 r (m - s) few)) (rw i at (some-none (is_delete wk s) 16 d (m - s) few)))
 
   -- or to where these end, one by one
-  module _ {to : ℕ} (h : s < z.n) (t : to ≡ lesser (s + 16) z.n) where
+  module _ {to : ℕ} (h : s < z.n) (t : to ≡ min (s + 16) z.n) where
     on : Onward (s + 16) z.n s to
     on = onward (omega arith) h t
 
@@ -183,11 +181,11 @@ module _ {wk tr : List ℕ} {z : Sizes} {c p s : ℕ} (y : Looking wk tr z c p) 
     pub group-among : Among wk tr z s to
     group-among = record { shaped = record { working = y.slot.slot.sized; notes = y.slot.notes }; some = on.past; top = on.top }
 
-    module _ {g : Found} (ge : g ≡ first_from (due z (table wk tr) c) to s) where
-      pub group-hit : {m : ℕ} → g ≡ At m → At m ≡ first_from (due z (table wk tr) c) z.n p
+    module _ {g : Option ℕ} (ge : g ≡ first_from (due z (table wk tr) c) to s) where
+      pub group-hit : {m : ℕ} → g ≡ Some m → Some m ≡ first_from (due z (table wk tr) c) z.n p
       group-hit a = within-hit f (omega (arith, on.past)) on.top (λ j l b. refl) ge a
 
-      pub group-none : g ≡ Nothing → From (due z (table wk tr) c) z.n p to
+      pub group-none : g ≡ None → From (due z (table wk tr) c) z.n p to
       group-none a = within_none f (omega (arith, on.past)) on.top (λ j l b. refl) ge a
 
 pub ruleset dues = (froms, slot-note, slot-head, retired-none, retired-due, payload-young, payload-old, due-payload, due-anti, anti-other, anti-zero, anti-old, among-start, among-slot)

@@ -1,5 +1,5 @@
 -- The ways out of a step: the lines, and the step by its phase.
-use Rattle.std.specs.Prelude.{ℕ, ◌+◌, ◌-◌, ◌≤◌, ◌<◌, true, false, not, List}
+use Rattle.std.specs.Prelude.{ℕ, ◌+◌, ◌-◌, ◌≤◌, ◌<◌, true, false, List, Option, Some, None}
 use Rattle.std.proofs.Math.Path.{◌≡◌}
 use Rattle.std.proofs.Common.{sym, ◌∙◌, arith}
 use Rattle.std.proofs.Math.Logic.{⊎_elim}
@@ -8,10 +8,8 @@ use borrow.Author.Tests.{lt-ltb, le-ltb, eq-eqb, ne_eqb}
 use Rattle.std.proofs.Math.Decide.{ℕ_discrete}
 use Rattle.search.specs.Bools.{cases}
 use Rattle.search.specs.From.{first_from, found_between}
-use Rattle.search.specs.declared.Found.{Found}
-use Rattle.search.specs.declared.Found.TheVariants.{At, Nothing}
 use Rattle.image.specs.declared.header.Header.{Header}
-use Rattle.image.specs.Layout.{header, free_header}
+use Rattle.image.specs.Layout.{free_header}
 use Rattle.image.specs.Line.{header_line, clock_line, store_line}
 use Rattle.image.specs.declared.name.Name.{Name}
 use Rattle.image.specs.Name.{name_at}
@@ -24,15 +22,15 @@ use Rattle.transient.specs.Laws.{retired-front}
 use Rattle.index.specs.Index.{removed}
 use Rattle.step.specs.declared.Place.{Place}
 use Rattle.step.specs.declared.Advance.TheVariants.{WentOn, Ticked}
-use Rattle.step.specs.Step.{idle, reclaim_next, contents_next, header_next, clock_next, Stepped, stepped, place, passing, due, reclaimed, contents_flushed, header_flushed, ticking, flush_from, reclaim_from, step}
+use Rattle.step.specs.Step.{idle, reclaim_next, contents_next, header_next, clock_next, Stepped, stepped, place, passing, reclaimed, contents_flushed, header_flushed, ticking, flush_from, reclaim_from, step}
 use Rattle.step.specs.Stages.{due_from, due_next, reclaim_or_flush}
 use Rattle.step.specs.Requires.{Looking, Going, Freed, slot_in, slots-first, slots-second, going-advancing, going-looking, requires-laws}
 use Rattle.step.specs.From.{due-between}
 use Rattle.step.specs.DueExits.{looking-at}
 
 -- ---- a slot found is one of the table
-module _ {wk l tr : List ℕ} {z : Sizes} {c p s : ℕ} {f : Found} (y : Going wk l tr z c p) where
-  pub going-wait : f ≡ first_from (is_waiting tr (c - 1)) z.n p → f ≡ At s → Slots wk l z.n z.w s
+module _ {wk l tr : List ℕ} {z : Sizes} {c p s : ℕ} {f : Option ℕ} (y : Going wk l tr z c p) where
+  pub going-wait : f ≡ first_from (is_waiting tr (c - 1)) z.n p → f ≡ Some s → Slots wk l z.n z.w s
   going-wait e a =
       let h = (found_between (is_waiting tr (c - 1)) z.n p (sym e ∙ a)).below in
       record { first = slot y.advancing.shaped.working h; second = slot y.advancing.persistent h }
@@ -76,19 +74,19 @@ module _ (p : Place) where
 
   -- ---- the next slot to reclaim
   module _ (z : Sizes) (tb : Table) (c : ℕ) where
-    pub due-over : p.phase ≡ contents_next → Nothing ≡ due_next z tb c p
+    pub due-over : p.phase ≡ contents_next → None ≡ due_next z tb c p
     unfolding due_next
     due-over h = rw (eq-eqb p.phase contents_next h)
 
-    pub due-on : {a : ℕ} {f : Found} → (p.phase ≡ contents_next → ⊥) → a ≡ slot_in p reclaim_next → f ≡ due_from z tb c a → f ≡ due_next z tb c p
+    pub due-on : {a : ℕ} {f : Option ℕ} → (p.phase ≡ contents_next → ⊥) → a ≡ slot_in p reclaim_next → f ≡ due_from z tb c a → f ≡ due_next z tb c p
     unfolding due_next
     due-on h e d = rw (ne_eqb p.phase contents_next h, ← e) d
 
-  pub going-due : {wk l tr : List ℕ} {z : Sizes} {c s : ℕ} {f : Found} → Going wk l tr z c p.slot → f ≡ due_next z (table wk tr) c p → f ≡ At s → Going wk l tr z c s
+  pub going-due : {wk l tr : List ℕ} {z : Sizes} {c s : ℕ} {f : Option ℕ} → Going wk l tr z c p.slot → f ≡ due_next z (table wk tr) c p → f ≡ Some s → Going wk l tr z c s
   unfolding due_next
   going-due {wk} {l} {tr} {z} {c} {s} y e a =
       ⊎_elim
-      (λ (t : eqb p.phase contents_next ≡ true). let g : Nothing ≡ At s = rw t at (sym e ∙ a) in let one : ◌≡◌ {A = ℕ} 0 1 = cc in absurd (omega arith))
+      (λ (t : eqb p.phase contents_next ≡ true). let g : None ≡ Some s = rw t at (sym e ∙ a) in let one : ◌≡◌ {A = ℕ} 0 1 = cc in absurd (omega arith))
       (λ (t : eqb p.phase contents_next ≡ false).
       let g = rw t at (sym e ∙ a) in
       record { advancing = y.advancing; within = (due-between z (table wk tr) c (slot_in p reclaim_next) g).below })
@@ -115,13 +113,13 @@ module _ (z : Sizes) (wk l tr : List ℕ) where
   tick-done c a b d = rw (a, b, d)
 
   -- from a slot on
-  module _ (c p : ℕ) {f : Found} where
-    pub flush-line : {s : ℕ} {l' : List ℕ} → f ≡ first_from (is_waiting tr (c - 1)) z.n p → f ≡ At s → l' ≡ store_line l (held_contents wk z.n z.w s)
+  module _ (c p : ℕ) {f : Option ℕ} where
+    pub flush-line : {s : ℕ} {l' : List ℕ} → f ≡ first_from (is_waiting tr (c - 1)) z.n p → f ≡ Some s → l' ≡ store_line l (held_contents wk z.n z.w s)
         → stepped WentOn wk l' tr (place header_next s) ≡ flush_from z (store wk l tr) c p
     unfolding flush_from first_from contents_flushed
     flush-line fe a e = rw (← fe, a, e)
 
-    pub flush-tick : {x : Stepped} → f ≡ first_from (is_waiting tr (c - 1)) z.n p → f ≡ Nothing → x ≡ ticking z (store wk l tr) c → x ≡ flush_from z (store wk l tr) c p
+    pub flush-tick : {x : Stepped} → f ≡ first_from (is_waiting tr (c - 1)) z.n p → f ≡ None → x ≡ ticking z (store wk l tr) c → x ≡ flush_from z (store wk l tr) c p
     unfolding flush_from first_from
     flush-tick fe a e = rw (← fe, a) e
 
@@ -150,12 +148,12 @@ module _ (z : Sizes) (wk l tr : List ℕ) where
         ]
 
     -- .. at a slot
-    module _ {f : Found} (fe : f ≡ due_next z (table wk tr) c p) where
-      pub slot-reclaim : {s : ℕ} → f ≡ At s → x ≡ reclaimed z (store wk l tr) s → x ≡ reclaim_or_flush z (store wk l tr) c p
+    module _ {f : Option ℕ} (fe : f ≡ due_next z (table wk tr) c p) where
+      pub slot-reclaim : {s : ℕ} → f ≡ Some s → x ≡ reclaimed z (store wk l tr) s → x ≡ reclaim_or_flush z (store wk l tr) c p
       unfolding reclaim_or_flush
       slot-reclaim a e = rw (← fe, a) e
 
-      pub slot-flush : {a : ℕ} → f ≡ Nothing → a ≡ slot_in p contents_next → x ≡ flush_from z (store wk l tr) c a → x ≡ reclaim_or_flush z (store wk l tr) c p
+      pub slot-flush : {a : ℕ} → f ≡ None → a ≡ slot_in p contents_next → x ≡ flush_from z (store wk l tr) c a → x ≡ reclaim_or_flush z (store wk l tr) c p
       unfolding reclaim_or_flush
       slot-flush n g e = rw (← fe, n, ← g) e
 

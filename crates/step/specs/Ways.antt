@@ -1,9 +1,7 @@
 -- The ways of a step: it reclaims a slot, stores one of a slot's two lines, or ticks. What holds of each holds of every step.
-use Rattle.std.specs.Prelude.{ℕ, ◌<◌, ◌≡◌, Bool, true, false, cond, ◌&&◌, eqb}
+use Rattle.std.specs.Prelude.{ℕ, ◌<◌, ◌≡◌, Bool, true, false, cond, ◌&&◌, eqb, Option, Some, None}
 use Rattle.std.proofs.Math.Path.{refl}
 use Rattle.std.proofs.Math.Dec.{leb}
-use Rattle.search.specs.declared.Found.{Found}
-use Rattle.search.specs.declared.Found.TheVariants.{At, Nothing}
 use Rattle.search.specs.First.{where_found, found_first}
 use Rattle.transient.specs.declared.sizes.Sizes.{Sizes}
 use Rattle.transient.specs.Store.{Store, table_of}
@@ -17,17 +15,17 @@ module _ (P : Stepped → Type 0) (z : Sizes) (st : Store) (c : ℕ) (reclaims :
   unfolding flush_from waiting_from
   flush-way p = go (waiting_from z st.transient c p)
     where
-      go : (f : Found) → P (where_found f (contents_flushed z st) (ticking z st c))
-      go (At s) = line s
-      go Nothing = ticks
+      go : (f : Option ℕ) → P (where_found f (contents_flushed z st) (ticking z st c))
+      go (Some s) = line s
+      go None = ticks
 
   reclaim-way : (p : ℕ) → P (reclaim_from z st c p)
   unfolding reclaim_from due_from
   reclaim-way p = go (due_from z (table_of st) c p) refl
     where
-      go : (f : Found) → due_from z (table_of st) c p ≡ f → P (where_found f (reclaimed z st) (flush_from z st c 0))
-      go (At s) e = reclaims s (found_first (λ m. leb p m && due z (table_of st) c m) z.n e).below
-      go Nothing e = flush-way 0
+      go : (f : Option ℕ) → due_from z (table_of st) c p ≡ f → P (where_found f (reclaimed z st) (flush_from z st c 0))
+      go (Some s) e = reclaims s (found_first (λ m. leb p m && due z (table_of st) c m) z.n e).below
+      go None e = flush-way 0
 
   either : (b : Bool) (x y : Stepped) → P x → P y → P (cond b x y)
   either true x y p q = p

@@ -1,4 +1,6 @@
 // What an advance looks for first: slots to reclaim. The search goes up from a slot.
+#![tactic(auto, using(crate::specs::DueExits::dues))]
+
 ghost use Rattle.std.specs.Prelude.{◌≡◌};
 ghost use Rattle.search.specs.From.{first_from};
 ghost use Rattle.image.specs.Requires.{HeaderFits};
@@ -9,7 +11,6 @@ ghost use Rattle.step.specs.Stages.{due_from};
 ghost use Rattle.step.specs.Requires.{Looking, Among, NoteGroup, HeaderGroup, retired_due, payload_due, anti_due, any_retired, any_delete, group_stays};
 
 use image::header::Header;
-use search::Found;
 use transient::sizes::Sizes;
 
 // Was it retired two epochs ago?
@@ -19,7 +20,7 @@ fn retired_due(r: u32, c: u32) -> bool
     if r == 0 {
         return false;
     }
-    image::shape::wide(r) + 2 == image::shape::wide(c)
+    r as usize + 2 == c as usize
 }
 
 // Is it a payload that was? Most slots are not retired, so that is asked first.
@@ -28,7 +29,7 @@ fn payload_due(working: &[u32], transient: &[u32], z: Sizes, c: u32, s: usize) -
     ensures { result ≡ payload_due z (table working.now transient.now) c s }
 {
     if retired_due(transient::notes::retired_in(transient, z, s), c) {
-        image::header::payload(image::header::header_at(working, z.n, s))
+        image::header::header_at(working, z.n, s).is_payload()
     } else {
         false
     }
@@ -41,10 +42,10 @@ fn anti_due(working: &[u32], z: Sizes, c: u32, s: usize) -> bool
 {
     let h = image::header::header_at(working, z.n, s);
     if h.kind == Header::DELETE {
-        if image::header::has_zero(h) {
+        if h.has_zero() {
             return false;
         }
-        return image::shape::wide(h.epoch) + 3 == image::shape::wide(c);
+        return h.epoch as usize + 3 == c as usize;
     }
     false
 }
@@ -61,57 +62,59 @@ fn due(working: &[u32], transient: &[u32], z: Sizes, c: u32, s: usize) -> bool
 }
 
 // The first slot to reclaim, from p on and below `to`.
-fn due_in(working: &[u32], transient: &[u32], z: Sizes, c: u32, p: usize, to: usize) -> Found
+fn due_in(
+    working: &[u32],
+    transient: &[u32],
+    z: Sizes,
+    c: u32,
+    p: usize,
+    to: usize,
+) -> Option<usize>
     requires { Among working.now transient.now z p to }
     ensures { result ≡ first_from (due z (table working.now transient.now) c) to p }
 {
-    let mut s = p;
-    while s < to {
+    for s in p..to {
         if due(working, transient, z, c, s) {
-            return Found::At(s);
+            return Some(s);
         }
-        s += 1;
     }
-    Found::Nothing
+    None
 }
 
 // ---- sixteen slots at once, as on most of a board nothing is due
 const GROUP: usize = 16;
 
 // Was any of the sixteen from s on retired in epoch e? All are looked at: so the compiler takes four in one instruction.
+#[tactic(auto, using(crate::specs::DueExits::groups))]
 fn any_retired(transient: &[u32], z: Sizes, e: u32, s: usize) -> bool
     requires { NoteGroup transient.now z s }
     ensures { result ≡ any_retired z transient.now e s }
 {
     let mut any = false;
-    let mut j = 0;
-    while j < GROUP {
+    for j in 0..GROUP {
         if transient::notes::retired_in(transient, z, s + j) == e {
             any = true;
-            j += 1;
-        } else {
-            j += 1;
         }
     }
     any
 }
 
 // Is any of them a DELETE? The kind alone is read.
+#[tactic(auto, using(crate::specs::DueExits::groups))]
 fn any_delete(working: &[u32], z: Sizes, s: usize) -> bool
     requires { HeaderGroup working.now z s }
     ensures { result ≡ any_delete working.now s }
 {
-    let mut j = 0;
-    while j < GROUP {
+    for j in 0..GROUP {
         if image::header::header_at(working, z.n, s + j).kind == Header::DELETE {
             return true;
         }
-        j += 1;
     }
     false
 }
 
 // Are sixteen left, none of which can be due?
+#[tactic(auto, using(crate::specs::DueExits::groups))]
 fn group_stays(working: &[u32], transient: &[u32], z: Sizes, c: u32, s: usize) -> bool
     requires { Looking working.now transient.now z c s }
     ensures { result ≡ group_stays z (table working.now transient.now) c s }
@@ -129,7 +132,8 @@ fn group_stays(working: &[u32], transient: &[u32], z: Sizes, c: u32, s: usize) -
 }
 
 // The first slot to reclaim, from p on.
-pub fn due_from(working: &[u32], transient: &[u32], z: Sizes, c: u32, p: usize) -> Found
+#[tactic(auto, using(crate::specs::DueExits::walks))]
+pub fn due_from(working: &[u32], transient: &[u32], z: Sizes, c: u32, p: usize) -> Option<usize>
     requires { Looking working.now transient.now z c p }
     ensures { result ≡ due_from z (table working.now transient.now) c p }
 {
@@ -138,16 +142,16 @@ pub fn due_from(working: &[u32], transient: &[u32], z: Sizes, c: u32, p: usize) 
         if group_stays(working, transient, z, c, s) {
             s += GROUP;
         } else {
-            let to = search::lesser(s + GROUP, z.n);
+            let to = (s + GROUP).min(z.n);
             match due_in(working, transient, z, c, s, to) {
-                Found::At(m) => {
-                    return Found::At(m);
+                Some(m) => {
+                    return Some(m);
                 }
-                Found::Nothing => {
+                None => {
                     s = to;
                 }
             }
         }
     }
-    Found::Nothing
+    None
 }

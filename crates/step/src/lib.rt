@@ -1,5 +1,5 @@
 // One step of an advance: the next line is stored. The place goes through it by value.
-#![tactic(auto)]
+#![tactic(auto, using(crate::specs::Exits::lines, crate::specs::Exits::steps))]
 
 pub mod due;
 pub mod lent;
@@ -14,7 +14,6 @@ ghost use Rattle.step.specs.Requires.{Advancing, Going, Looking, slot_in};
 ghost use Rattle.step.specs.Moved.{moved};
 
 use reply::Refusal;
-use search::Found;
 use transient::sizes::Sizes;
 
 // The place an advance has reached.
@@ -38,11 +37,10 @@ impl Place {
 }
 
 // One advance call's answer: "went on", "ticked", or a refusal.
-#[derive(Clone, Copy)]
+#[derive(Clone, Copy, Debug, PartialEq, Eq)]
 pub enum Advance {
     WentOn,
     Ticked,
-    Declined(Refusal),
 }
 
 // Whether a step ticked, and the place that comes after it.
@@ -148,7 +146,7 @@ fn flush_from(
     ensures { moved result working.new persistent.new transient.new ≡ flush_from z (store working.old persistent.old transient.old) c p }
 {
     match transient::lists::waiting_from(transient, z, c - 1, p) {
-        Found::At(s) => {
+        Some(s) => {
             image::contents::copy_contents(working, persistent, z.n, z.w, s);
             let place = Place {
                 phase: Place::HEADER,
@@ -159,11 +157,12 @@ fn flush_from(
                 place,
             }
         }
-        Found::Nothing => tick(working, persistent, transient, z, c),
+        None => tick(working, persistent, transient, z, c),
     }
 }
 
 // Where a phase goes on, or begins.
+#[tactic(auto, using(crate::specs::Exits::places))]
 fn slot_in(place: Place, phase: u32) -> usize
     ensures { result ≡ slot_in place phase }
 {
@@ -174,17 +173,19 @@ fn slot_in(place: Place, phase: u32) -> usize
 }
 
 // The next slot to reclaim; none where contents are next.
-fn due_next(working: &[u32], transient: &[u32], z: Sizes, c: u32, place: Place) -> Found
+#[tactic(auto, using(crate::specs::Exits::places))]
+fn due_next(working: &[u32], transient: &[u32], z: Sizes, c: u32, place: Place) -> Option<usize>
     requires { Looking working.now transient.now z c place.slot }
     ensures { result ≡ due_next z (table working.now transient.now) c place }
 {
     if place.phase == Place::CONTENTS {
-        return Found::Nothing;
+        return None;
     }
     crate::due::due_from(working, transient, z, c, slot_in(place, Place::RECLAIM))
 }
 
 // The next slot to reclaim, else the next line to flush.
+#[tactic(auto, using(crate::specs::Exits::slots))]
 fn reclaim_or_flush(
     working: &mut [u32],
     persistent: &mut [u32],
@@ -197,8 +198,8 @@ fn reclaim_or_flush(
     ensures { moved result working.new persistent.new transient.new ≡ reclaim_or_flush z (store working.old persistent.old transient.old) c place }
 {
     match due_next(working, transient, z, c, place) {
-        Found::At(s) => reclaim(working, persistent, transient, z, c, s),
-        Found::Nothing => flush_from(
+        Some(s) => reclaim(working, persistent, transient, z, c, s),
+        None => flush_from(
             working,
             persistent,
             transient,
@@ -210,6 +211,7 @@ fn reclaim_or_flush(
 }
 
 // From a place on; where none is underway an advance begins.
+#[tactic(auto, using(crate::specs::Exits::stepping))]
 pub fn step(
     working: &mut [u32],
     persistent: &mut [u32],

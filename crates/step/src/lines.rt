@@ -16,6 +16,7 @@ pub fn write_header(working: &[u32], persistent: &mut [u32], z: Sizes, s: usize)
 }
 
 // A slot becomes free in both images.
+#[tactic(auto, using(crate::specs::Exits::lines))]
 pub fn free_both(working: &mut [u32], persistent: &mut [u32], z: Sizes, s: usize)
     requires { Slots working.old persistent.old z.n z.w s }
     ensures { Freed working.old persistent.old s working.new persistent.new }

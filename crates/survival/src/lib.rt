@@ -1,5 +1,5 @@
 // Which slots of an image survive a crash: kept, and what a kept slot meets of its uid.
-#![tactic(auto)]
+#![tactic(auto, using(crate::specs::Exits::laws))]
 
 pub mod rivals;
 
@@ -14,8 +14,8 @@ use image::header::Header;
 pub fn kept(h: Header, c: u32) -> bool
     ensures { result ≡ kept c h }
 {
-    if image::header::filled(h) {
-        image::shape::wide(h.epoch) + 2 <= image::shape::wide(c)
+    if h.is_filled() {
+        h.epoch as usize + 2 <= c as usize
     } else {
         false
     }
@@ -27,12 +27,10 @@ pub fn survivor_count(img: &[u32], flags: &[bool; 1024], n: usize) -> usize
     ensures { result ≡ survivor_count img.now n }
 {
     let mut k = 0;
-    let mut s = 0;
-    while s < n {
+    for s in 0..n {
         if flags[s] {
             k += 1;
         }
-        s += 1;
     }
     k
 }

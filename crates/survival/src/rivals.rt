@@ -1,4 +1,6 @@
 // A kept slot among those of its uid before it: the largest epoch wins, and a winner that is a payload survives.
+#![tactic(auto, using(crate::specs::Rivals::admissions))]
+
 ghost use Rattle.std.specs.Prelude.{◌≡◌};
 ghost use Rattle.search.specs.Some.{any_of};
 ghost use Rattle.chains.specs.Chains.{newer_in};
@@ -8,6 +10,7 @@ ghost use Rattle.survival.specs.Rivals.{Flags, Outdone, Admits, Rival, Met, Admi
 use image::header::Header;
 
 // Is there a slot of that uid and a larger epoch?
+#[tactic(auto, using(crate::specs::Rivals::newer, chains::specs::Walking::meetings))]
 fn beaten(l: &[u32], m: usize, i: usize, from: usize, x: u32, y: u32) -> bool
     requires { FromKin m i from x l.now }
     ensures { result ≡ any_of (newer_in l.now x y) i }
@@ -23,6 +26,7 @@ fn beaten(l: &[u32], m: usize, i: usize, from: usize, x: u32, y: u32) -> bool
 }
 
 // Slots of that uid and a smaller epoch do not survive.
+#[tactic(auto, using(crate::specs::Rivals::outdoes))]
 fn outdo(l: &[u32], flags: &mut [bool; 1024], m: usize, i: usize, from: usize, x: u32, y: u32)
     requires from_kin { FromKin m i from x l.now }
     requires flags { Flags flags.old }

@@ -1,6 +1,6 @@
 -- How many lines a sync can still store: each advance call lowers it, so the calls that the definition of sync allows are enough.
 use Prim.Native.Nat.{ℕ, zero, suc, ◌+◌, ◌*◌, ◌≤◌, ◌<◌}
-use Rattle.std.specs.Prelude.{◌≡◌}
+use Rattle.std.specs.Prelude.{◌≡◌, Result, Ok}
 use Rattle.std.proofs.Common.{mul-suc, arith}
 use Rattle.image.specs.Layout.{slots_of}
 use Rattle.transient.specs.Layout.{note, place_at}
@@ -9,6 +9,7 @@ use Rattle.step.specs.declared.Advance.{Advance}
 use Rattle.step.specs.declared.Advance.TheVariants.{WentOn, Ticked}
 use Rattle.advance.specs.Stages.{most_lines, noted_place}
 use Rattle.advance.specs.Left.{Moves, lines_left, left-top, left-low}
+use Rattle.reply.specs.declared.Refusal.{Refusal}
 
 -- the lines that can still come until so many ticks
 unfoldable pub budget : Table → ℕ → ℕ
@@ -26,12 +27,12 @@ unfolding budget
 budget-low tb k h = omega (arith, left-low (slots_of tb.working) (noted_place tb.transient) h)
 
 -- each call lowers it
-module _ {st : Store} {x : Outcome Advance} (m : Moves st x) (k : ℕ) where
-  pub budget-on : x.reply ≡ WentOn → budget (table_of x.store) (suc k) < budget (table_of st) (suc k)
+module _ {st : Store} {x : Outcome (Result Advance Refusal)} (m : Moves st x) (k : ℕ) where
+  pub budget-on : x.reply ≡ Ok WentOn → budget (table_of x.store) (suc k) < budget (table_of st) (suc k)
   unfolding budget
   budget-on e = let d = rw m.slots at (m.on e) in rw m.slots (omega arith)
 
-  pub budget-tick : x.reply ≡ Ticked → budget (table_of x.store) k < budget (table_of st) (suc k)
+  pub budget-tick : x.reply ≡ Ok Ticked → budget (table_of x.store) k < budget (table_of st) (suc k)
   unfolding budget
   budget-tick e = from k
     where

@@ -1,6 +1,6 @@
 -- The ways out of a sync: refusals 14 and 15, then advance calls until two ticks have happened.
 use Prim.Native.Nat.{ℕ, zero, suc, ◌+◌, ◌*◌, ◌-◌, ◌≤◌, ◌<◌}
-use Rattle.std.specs.Prelude.{◌≡◌, Bool, true, false, List, length}
+use Rattle.std.specs.Prelude.{◌≡◌, Bool, true, false, List, length, Result, Ok, Err}
 use Rattle.std.proofs.Math.Path.{refl, sym}
 use Rattle.std.proofs.Common.{◌∙◌, Fits}
 use Rattle.std.specs.Int.{w64}
@@ -8,8 +8,6 @@ use borrow.Author.Tests.{lt-ltb, le-ltb}
 use native.Mathlib.Omega.{arith}
 use Rattle.std.proofs.Math.Numerals.{add-one}
 use Rattle.search.specs.Bools.{tests}
-use Rattle.reply.specs.declared.Check.{Check}
-use Rattle.reply.specs.declared.Check.TheVariants.{Accepted, Refused}
 use Rattle.reply.specs.declared.Refusal.{Refusal}
 use Rattle.reply.specs.declared.Refusal.TheVariants.{StillOpen, LastEpoch}
 use Rattle.image.specs.Layout.{most_slots, most_number, slots_of, clock_of}
@@ -19,38 +17,37 @@ use Rattle.transient.specs.Entry.{entry_check}
 use Rattle.transient.specs.Requires.{Sizable, EnteredWith, entered-notes, entered-front}
 use Rattle.transient.specs.Passed.{entry-with, entered-sizable}
 use Rattle.step.specs.declared.Advance.{Advance}
-use Rattle.step.specs.declared.Advance.TheVariants.{WentOn, Ticked, Declined}
+use Rattle.step.specs.declared.Advance.TheVariants.{WentOn, Ticked}
 use Rattle.advance.specs.Advance.{advance}
 use Rattle.advance.specs.Stages.{any_open, most_lines, advance_sized}
 use Rattle.advance.specs.Left.{Moves, advance-moves}
-use Rattle.sync.specs.declared.answer.Sync.{Sync}
-use Rattle.sync.specs.declared.answer.Sync.TheVariants as sync-reply
 use Rattle.sync.specs.Sync.{sync_check, sync_from, sync}
 use Rattle.sync.specs.Stages.{ready_check}
 use Rattle.sync.specs.Budget.{budget, budget-top, budget-low, budget-on, budget-tick}
 use Rattle.sync.specs.Quiet.{Ready, quiet-place, check-quiet, ready-entered, ready-advance, ready_on, ready-tick}
+use Rattle.reply.specs.Refusals.{Check}
 
 -- ---- refusals 14 and 15
 module _ (wk tr : List ℕ) (t : ℕ) {o : Bool} (oe : o ≡ any_open tr t) where
-  pub ready-open : o ≡ true → Refused StillOpen ≡ ready_check wk tr t
+  pub ready-open : o ≡ true → Err StillOpen ≡ ready_check wk tr t
   unfolding ready_check
   ready-open e = rw (← oe, e)
 
   module _ {k : ℕ} (e : o ≡ false) (ke : k ≡ clock_of wk) where
-    pub ready-last : most_number - 2 < k → Refused LastEpoch ≡ ready_check wk tr t
+    pub ready-last : most_number - 2 < k → Err LastEpoch ≡ ready_check wk tr t
     unfolding ready_check
     ready-last h = rw (← oe, e, ← ke, lt-ltb (most_number - 2) k h)
 
-    pub ready-fine : k ≤ most_number - 2 → Accepted ≡ ready_check wk tr t
+    pub ready-fine : k ≤ most_number - 2 → Ok tt ≡ ready_check wk tr t
     unfolding ready_check
     ready-fine h = rw (← oe, e, ← ke, le-ltb (most_number - 2) k h)
 
 module _ (wk l tr : List ℕ) {k : Check} (ce : k ≡ entry_check (store wk l tr)) where
-  pub check-refused : {r : Refusal} → k ≡ Refused r → Refused r ≡ sync_check (store wk l tr)
+  pub check-refused : {r : Refusal} → k ≡ Err r → Err r ≡ sync_check (store wk l tr)
   unfolding sync_check
   check-refused a = rw (← ce, a)
 
-  pub check-ready : {z : Sizes} {q : Check} → k ≡ Accepted → z ≡ sizes_of (table wk tr) → q ≡ ready_check wk tr z.t → q ≡ sync_check (store wk l tr)
+  pub check-ready : {z : Sizes} {q : Check} → k ≡ Ok tt → z ≡ sizes_of (table wk tr) → q ≡ ready_check wk tr z.t → q ≡ sync_check (store wk l tr)
   unfolding sync_check ready_check any_open
   check-ready a e h = rw (← ce, a) (rw e at h)
 
@@ -98,29 +95,29 @@ module _ {z : Sizes} {wk₀ l₀ tr₀ : List ℕ} {ticks lines : ℕ} {wk l tr 
   pub sync-fits : Fits w64 (lines + 1)
   sync-fits = omega (arith, y.few)
 
-  pub sync-reports : ticks ≤ 0 → outcome (sync-reply.Done lines) wk l tr ≡ sync_from (2 * most_lines (slots_of wk₀)) 2 0 (store wk₀ l₀ tr₀)
+  pub sync-reports : ticks ≤ 0 → outcome (Ok lines) wk l tr ≡ sync_from (2 * most_lines (slots_of wk₀)) 2 0 (store wk₀ l₀ tr₀)
   unfolding sync_from
   sync-reports h = let e : ticks ≡ 0 = omega arith in sym (rw e at y.same ∙ none_left y.more)
     where
-      none_left : (more : ℕ) → sync_from more 0 lines (store wk l tr) ≡ outcome (sync-reply.Done lines) wk l tr
+      none_left : (more : ℕ) → sync_from more 0 lines (store wk l tr) ≡ outcome (Ok lines) wk l tr
       none_left zero = refl
       none_left (suc more) = refl
 
 -- one call more, by its reply
 module _ (more ticks lines : ℕ) (st st' : Store) where
-  next-on : record { reply = WentOn; store = st' } ≡ advance st → sync_from (suc more) (suc ticks) lines st ≡ sync_from more (suc ticks) (lines + 1) st'
+  next-on : record { reply = Ok WentOn; store = st' } ≡ advance st → sync_from (suc more) (suc ticks) lines st ≡ sync_from more (suc ticks) (lines + 1) st'
   unfolding sync_from
   next-on e = rw (← e, add-one lines)
 
-  next-tick : record { reply = Ticked; store = st' } ≡ advance st → sync_from (suc more) (suc ticks) lines st ≡ sync_from more ticks (lines + 1) st'
+  next-tick : record { reply = Ok Ticked; store = st' } ≡ advance st → sync_from (suc more) (suc ticks) lines st ≡ sync_from more ticks (lines + 1) st'
   unfolding sync_from
   next-tick e = rw (← e, add-one lines)
 
-  next-declined : (r : Refusal) → record { reply = Declined r; store = st' } ≡ advance st → sync_from (suc more) (suc ticks) lines st ≡ record { reply = sync-reply.Declined r; store = st' }
+  next-declined : (r : Refusal) → record { reply = Err r; store = st' } ≡ advance st → sync_from (suc more) (suc ticks) lines st ≡ record { reply = Err r; store = st' }
   unfolding sync_from
   next-declined r e = rw (← e)
 
-module _ {z : Sizes} {wk₀ l₀ tr₀ : List ℕ} {ticks lines : ℕ} {wk l tr wk' l' tr' : List ℕ} {r : Advance}
+module _ {z : Sizes} {wk₀ l₀ tr₀ : List ℕ} {ticks lines : ℕ} {wk l tr wk' l' tr' : List ℕ} {r : Result Advance Refusal}
     (y : Syncing z wk₀ l₀ tr₀ ticks lines wk l tr) (h : 0 < ticks) (e : outcome r wk' l' tr' ≡ advance_sized z (store wk l tr)) where
   is : outcome r wk' l' tr' ≡ advance (store wk l tr)
   is = e ∙ ready-advance y.ready
@@ -154,29 +151,29 @@ module _ {z : Sizes} {wk₀ l₀ tr₀ : List ℕ} {ticks lines : ℕ} {wk l tr 
         same = so_far ∙ same;
       }
 
-  pub lowers-on : {ticks' : ℕ} → r ≡ WentOn → ticks' ≡ ticks → budget (table wk' tr') ticks' < budget (table wk tr) ticks
+  pub lowers-on : {ticks' : ℕ} → r ≡ Ok WentOn → ticks' ≡ ticks → budget (table wk' tr') ticks' < budget (table wk tr) ticks
   lowers-on q i = rw i (rw some at (budget-on moves (ticks - 1) q))
 
-  pub lowers-tick : {ticks' : ℕ} → r ≡ Ticked → ticks' ≡ ticks - 1 → budget (table wk' tr') ticks' < budget (table wk tr) ticks
+  pub lowers-tick : {ticks' : ℕ} → r ≡ Ok Ticked → ticks' ≡ ticks - 1 → budget (table wk' tr') ticks' < budget (table wk tr) ticks
   lowers-tick q i = rw i (rw some at (budget-tick moves (ticks - 1) q))
 
-  pub sync-on : {ticks' : ℕ} → Longs wk l tr wk' l' tr' → r ≡ WentOn → ticks' ≡ ticks → Syncing z wk₀ l₀ tr₀ ticks' (lines + 1) wk' l' tr'
+  pub sync-on : {ticks' : ℕ} → Longs wk l tr wk' l' tr' → r ≡ Ok WentOn → ticks' ≡ ticks → Syncing z wk₀ l₀ tr₀ ticks' (lines + 1) wk' l' tr'
   sync-on x q i = next x (rw i (ready_on y.ready h is q)) (lowers-on q i) (rw i (rw some at (next-on (y.more - 1) (ticks - 1) lines (store wk l tr) (store wk' l' tr') (rw q at is))))
 
-  pub sync-tick : {ticks' : ℕ} → Longs wk l tr wk' l' tr' → r ≡ Ticked → ticks' ≡ ticks - 1 → Syncing z wk₀ l₀ tr₀ ticks' (lines + 1) wk' l' tr'
+  pub sync-tick : {ticks' : ℕ} → Longs wk l tr wk' l' tr' → r ≡ Ok Ticked → ticks' ≡ ticks - 1 → Syncing z wk₀ l₀ tr₀ ticks' (lines + 1) wk' l' tr'
   sync-tick x q i = next x (rw i (ready-tick y.ready h is q)) (lowers-tick q i) (rw i (rw some at (next-tick (y.more - 1) (ticks - 1) lines (store wk l tr) (store wk' l' tr') (rw q at is))))
 
-  pub sync-declined : {d : Refusal} → r ≡ Declined d → outcome (sync-reply.Declined d) wk' l' tr' ≡ sync_from (2 * most_lines (slots_of wk₀)) 2 0 (store wk₀ l₀ tr₀)
+  pub sync-declined : {d : Refusal} → r ≡ Err d → outcome (Err d) wk' l' tr' ≡ sync_from (2 * most_lines (slots_of wk₀)) 2 0 (store wk₀ l₀ tr₀)
   sync-declined {d} q = sym (so_far ∙ rw some at (next-declined (y.more - 1) (ticks - 1) lines (store wk l tr) (store wk' l' tr') d (rw q at is)))
 
 -- ---- the call
 module _ (wk l tr : List ℕ) {k : Check} (ce : k ≡ sync_check (store wk l tr)) where
-  pub sync-refused : {r : Refusal} → k ≡ Refused r → outcome (sync-reply.Declined r) wk l tr ≡ sync (store wk l tr)
+  pub sync-refused : {r : Refusal} → k ≡ Err r → outcome (Err r) wk l tr ≡ sync (store wk l tr)
   unfolding sync
   sync-refused a = rw (← ce, a)
 
-  module _ (a : k ≡ Accepted) where
-    pub sync-goes : {x : Outcome Sync} → x ≡ sync_from (2 * most_lines (slots_of wk)) 2 0 (store wk l tr) → x ≡ sync (store wk l tr)
+  module _ (a : k ≡ Ok tt) where
+    pub sync-goes : {x : Outcome (Result ℕ Refusal)} → x ≡ sync_from (2 * most_lines (slots_of wk)) 2 0 (store wk l tr) → x ≡ sync (store wk l tr)
     unfolding sync
     sync-goes e = rw (← ce, a) e
 

@@ -1,9 +1,8 @@
 -- A store on which a sync is underway: with no operation open each of its advance calls is accepted, and leaves such a store.
-use Rattle.std.specs.Prelude.{ℕ, suc, ◌+◌, ◌-◌, ◌≤◌, ◌<◌, ◌≡◌, refl, Bool, true, false, not, ◌&&◌, List, ltb, eqb}
-use Rattle.std.proofs.Common.{sym, ◌∙◌, le-leb, eq-eqb, ne_eqb, eqb-true, ltb-false, arith}
+use Rattle.std.specs.Prelude.{ℕ, suc, ◌+◌, ◌-◌, ◌≤◌, ◌<◌, ◌≡◌, refl, Bool, true, false, not, ◌&&◌, List, ltb, eqb, Result, Ok}
+use Rattle.std.proofs.Common.{sym, ap, ◌∙◌, le-leb, eq-eqb, ne_eqb, eqb-true, ltb-false, arith}
 use Rattle.std.proofs.lemmas.Bool.{not-false}
 use Rattle.search.specs.Some.{any_of, some-none, none-some, at_every}
-use Rattle.reply.specs.declared.Check.TheVariants.{Accepted}
 use Rattle.reply.specs.declared.Refusal.TheVariants.{StillOpen, LastEpoch}
 use Rattle.reply.specs.Refusals.{refuse, not-refused, both-accepted}
 use Rattle.image.specs.Layout.{most_number, slots_of, clock_of, clock_ok}
@@ -25,10 +24,11 @@ use Rattle.advance.specs.Ways.{next_step}
 use Rattle.advance.specs.Left.{step-goes}
 use Rattle.advance.specs.Keeps.{next-kept}
 use Rattle.sync.specs.Sync.{sync_check}
+use Rattle.reply.specs.declared.Refusal.{Refusal}
 
 -- a store on which a sync is underway: it passes refusals 1 and 2, nothing is open, and the clock has room for so many ticks
 pub record Quiet (ticks : ℕ) (st : Store) : Type 0 where
-  pub entry : entry_check st ≡ Accepted
+  pub entry : entry_check st ≡ Ok tt
   pub none_open : (u : ℕ) → u < (sizes_of (table_of st)).t → open_epoch st.transient u ≡ 0
   pub room : clock_of st.working + ticks ≤ most_number
 
@@ -50,7 +50,7 @@ unfolding sizes_of
 noted-sizes st x s = rw (place-long x.store.transient (sizes_of (table_of st)) x.place.phase x.place.slot, s.notes.head.long, s.working.slots, s.working.width)
 
 -- .. and refusals 1 and 2 pass again
-module _ (st : Store) (x : Stepped) (ok : entry_check st ≡ Accepted) (s : Steady (sizes_of (table_of st)) st x) (within : x.place.slot < slots_of st.working) (c : ℕ)
+module _ (st : Store) (x : Stepped) (ok : entry_check st ≡ Ok tt) (s : Steady (sizes_of (table_of st)) st x) (within : x.place.slot < slots_of st.working) (c : ℕ)
     (clock-w : clock_of x.store.working ≡ c) (clock-l : clock_of x.store.persistent ≡ c) (lo : 2 ≤ c) (none : (u : ℕ) → u < (sizes_of (table_of st)).t → open_epoch st.transient u ≡ 0) where
   abbrev z : Sizes
   z = sizes_of (table_of st)
@@ -80,17 +80,17 @@ module _ (st : Store) (x : Stepped) (ok : entry_check st ≡ Accepted) (s : Stea
 
 -- ---- an advance call of a sync
 pub data Onward (k : ℕ) (st : Store) : Type 0 where
-  went : (advance st).reply ≡ WentOn → Quiet (suc k) (advance st).store → Onward k st
-  ticked : (advance st).reply ≡ Ticked → Quiet k (advance st).store → Onward k st
+  went : (advance st).reply ≡ Ok WentOn → Quiet (suc k) (advance st).store → Onward k st
+  ticked : (advance st).reply ≡ Ok Ticked → Quiet k (advance st).store → Onward k st
 
 -- 14 and 15 pass
-quiet_check : (z : Sizes) (tr : List ℕ) (c : ℕ) → 2 ≤ c → c < most_number → ((u : ℕ) → u < z.t → open_epoch tr u ≡ 0) → held_check z tr c ≡ Accepted
+quiet_check : (z : Sizes) (tr : List ℕ) (c : ℕ) → 2 ≤ c → c < most_number → ((u : ℕ) → u < z.t → open_epoch tr u ≡ 0) → held_check z tr c ≡ Ok tt
 unfolding held_check open_below
 quiet_check z tr c lo hi none =
     let below = none-some (λ u. eqb (open_epoch tr u + 1) c) z.t (λ u h. ne_eqb _ c (λ q. omega (arith, none u h))) in
     rw (below, ne_eqb c most_number (λ q. omega arith)) (never-held (underway tr))
   where
-    never-held : (b : Bool) → refuse (not b && false) StillOpen Accepted ≡ Accepted
+    never-held : (b : Bool) → refuse (not b && false) StillOpen (Ok tt) ≡ Ok tt
     never-held true = refl
     never-held false = refl
 
@@ -113,20 +113,20 @@ module _ (k : ℕ) (st : Store) (q : Quiet (suc k) st) where
   after d ticks a b lo hi = rw next-is (noted-quiet st (next_step st) q.entry (next-kept st q.entry).steady within d a b lo q.none_open ticks hi)
 
   onward-from : Clocked st (clock_of st.working) (next_step st) → Onward k st
-  onward-from (on e a b) = went (rw next-is e) (after (clock_of st.working) (suc k) a (b ∙ same) before.entered.clock-lo q.room)
-  onward-from (tick e a b) = ticked (rw next-is e) (after (clock_of st.working + 1) k a b (omega (arith, before.entered.clock-lo)) (omega (arith, q.room)))
+  onward-from (on e a b) = went (rw next-is (ap Ok e)) (after (clock_of st.working) (suc k) a (b ∙ same) before.entered.clock-lo q.room)
+  onward-from (tick e a b) = ticked (rw next-is (ap Ok e)) (after (clock_of st.working + 1) k a b (omega (arith, before.entered.clock-lo)) (omega (arith, q.room)))
 
   pub advance-quiet : Onward k st
   advance-quiet = onward-from (next-kept st q.entry).clocked
 
-  quiet-on : (advance st).reply ≡ WentOn → Quiet (suc k) (advance st).store
+  quiet-on : (advance st).reply ≡ Ok WentOn → Quiet (suc k) (advance st).store
   quiet-on e = go advance-quiet
     where
       go : Onward k st → Quiet (suc k) (advance st).store
       go (went a x) = x
       go (ticked a x) = let y : ◌≡◌ {A = ℕ} 0 1 = cc in absurd (omega arith)
 
-  quiet-tick : (advance st).reply ≡ Ticked → Quiet k (advance st).store
+  quiet-tick : (advance st).reply ≡ Ok Ticked → Quiet k (advance st).store
   quiet-tick e = go advance-quiet
     where
       go : Onward k st → Quiet k (advance st).store
@@ -151,16 +151,16 @@ module _ {ticks : ℕ} {wk l tr : List ℕ} {z : Sizes} (y : Ready ticks wk l tr
   quiet : Quiet (suc (ticks - 1)) (store wk l tr)
   quiet = rw some y.quiet
 
-  module _ {r : Advance} {wk' l' tr' : List ℕ} (e : outcome r wk' l' tr' ≡ advance (store wk l tr)) where
+  module _ {r : Result Advance Refusal} {wk' l' tr' : List ℕ} (e : outcome r wk' l' tr' ≡ advance (store wk l tr)) where
     ready-sizes : z ≡ sizes_of (table wk' tr')
     ready-sizes = y.sizes ∙ sym (rw (← e) at (sizes-kept (ticks - 1) (store wk l tr) quiet))
 
-    pub ready_on : r ≡ WentOn → Ready ticks wk' l' tr' z
+    pub ready_on : r ≡ Ok WentOn → Ready ticks wk' l' tr' z
     ready_on q =
         let on : Quiet (suc (ticks - 1)) (store wk' l' tr') = rw (← e) at (quiet-on (ticks - 1) (store wk l tr) quiet) q in
         record { quiet = rw some at on; sizes = ready-sizes }
 
-    pub ready-tick : r ≡ Ticked → Ready (ticks - 1) wk' l' tr' z
+    pub ready-tick : r ≡ Ok Ticked → Ready (ticks - 1) wk' l' tr' z
     ready-tick q = record { quiet = rw (← e) at (quiet-tick (ticks - 1) (store wk l tr) quiet) q; sizes = ready-sizes }
 
 -- the place is one of the table
@@ -169,14 +169,14 @@ unfolding sizes_of
 quiet-place {st = st} q = (entry-with st.working st.persistent st.transient q.entry).entered.place
 
 -- refusals 1, 2, 14 and 15 passed
-pub check-quiet : (st : Store) → sync_check st ≡ Accepted → Quiet 2 st
+pub check-quiet : (st : Store) → sync_check st ≡ Ok tt → Quiet 2 st
 unfolding sync_check
 check-quiet st a =
     let both = both-accepted (entry_check st) _ a in
     let open_in : ℕ → Bool = λ u. not (eqb (open_epoch st.transient u) 0) in
     let high = ltb (most_number - 2) (clock_of st.working) in
-    let first = not-refused (any_of open_in (sizes_of (table_of st)).t) StillOpen (refuse high LastEpoch Accepted) both.1 in
-    let top = ltb-false (most_number - 2) (clock_of st.working) (not-refused high LastEpoch Accepted first.1).0 in
+    let first = not-refused (any_of open_in (sizes_of (table_of st)).t) StillOpen (refuse high LastEpoch (Ok tt)) both.1 in
+    let top = ltb-false (most_number - 2) (clock_of st.working) (not-refused high LastEpoch (Ok tt) first.1).0 in
     record {
       entry = both.0;
       none_open = λ u h. eqb-true _ 0 (not-false _ (some-none open_in (sizes_of (table_of st)).t first.0 u h));

@@ -1,7 +1,8 @@
 -- The ways out of this crate's functions: a law for each, and for each call.
+use Rattle.reply.specs.declared.Refusal.TheVariants.{Newer}
 use Prim.Native.Nat.{ℕ, zero, suc, ◌+◌, ◌-◌, ◌≤◌, ◌<◌}
-use Rattle.std.specs.Prelude.{◌≡◌, refl, Bool, true, cond, ◌&&◌, List, ◌∷◌, length, get_or, set, replicate, ltb, eqb}
-use Rattle.std.proofs.Common.{sym, ◌∙◌, eq-or-lt_of_le, Fits}
+use Rattle.std.specs.Prelude.{◌≡◌, refl, Bool, true, ◌&&◌, List, ◌∷◌, length, get_or, set, replicate, ltb, eqb, Option, Some, None, Ok, Err}
+use Rattle.std.proofs.Common.{sym, ◌∙◌, eq-or-lt_of_le, add-one, Fits}
 use Rattle.std.proofs.Math.Bool.{false}
 use Rattle.std.proofs.Math.Logic.{⊎_elim}
 use Rattle.std.proofs.lemmas.List.{length-replicate}
@@ -11,12 +12,10 @@ use Rattle.std.proofs.Math.Decide.{dec_lt}
 use native.Mathlib.Omega.{arith}
 use Rattle.std.specs.Int.{w64}
 use Rattle.search.specs.Bools.{cases, and_left, and_right}
-use Rattle.search.specs.First.{first, first-of, Sought, sought-start, sought-next, sought-pass, found-hit, found-end, Next, first_next}
+use Rattle.search.specs.First.{first_of, Sought, sought-start, sought-next, sought-pass, found-hit, found-end, Next, first_next}
 use Rattle.search.specs.Some.{any_of, some_at, none-some}
 use Rattle.search.specs.Count.{count}
 use Rattle.search.specs.Ring.{ring_slot, first_round, ring-ahead, ring-round, ring-below, Rounding, round-start, round-next, round-hit, round-end, round-found, round-one, round-another, round-alone}
-use Rattle.search.specs.declared.Found.{Found}
-use Rattle.search.specs.declared.Found.TheVariants.{At, Nothing}
 use Rattle.image.specs.declared.header.Header.{Header}
 use Rattle.image.specs.Layout.{jobs_board, contents_at, is_filled, is_payload, header, key_at}
 use Rattle.image.specs.Line.{header_line, stored, store_line}
@@ -29,7 +28,6 @@ use Rattle.transient.specs.Layout.{note, last_at, retired_in, set_note, set_reti
 use Rattle.transient.specs.Laws.{retired-front, waiting-long}
 use Rattle.transient.specs.Store.{Table, table}
 use Rattle.transient.specs.Requires.{Shaped, Entered, note-after, note-head, note-slot, shaped-slot, slot-note, slot-working, slot-head, entered-head}
-use Rattle.table.specs.declared.find.Lookup.TheVariants.{Later, Live, Absent}
 use Rattle.table.specs.Find.{listed, newer_at, live_at, newer_on, live_on, live_slot, lookup, free_at, room}
 use Rattle.table.specs.Fill.{filled_slot, joined, taken, freed}
 use Rattle.index.specs.Index.{inserted, removed}
@@ -80,86 +78,55 @@ module _ (z : Sizes) (tb : Table) (name : Name) (s : ℕ) {k : Bool} (q : k ≡ 
     unfolding live_at
     live-retired {r} e re = rw (← at, ← pl, e, ← re, ← q, d) (and_yes (eqb r 0))
 
--- ---- one walk up for both: none below s is newer, and `live` is the first live one below s, or n
-module _ (n s live : ℕ) {b q : Bool} (e : b ≡ q) where
-  pub sooner-old : b ≡ true → live < n → live ≡ sooner q n s live
-  unfolding sooner
-  sooner-old t h = rw (← e, t, lt-ltb live n h)
-
-  pub sooner-here : b ≡ true → n ≤ live → s ≡ sooner q n s live
-  unfolding sooner
-  sooner-here t h = rw (← e, t, le-ltb live n h)
-
-  pub sooner-not : b ≡ false → live ≡ sooner q n s live
-  unfolding sooner
-  sooner-not t = rw (← e, t)
-
-sooner-kept : (b : Bool) (n s live : ℕ) → ltb live n ≡ true → sooner b n s live ≡ live
+-- ---- one walk up for both: none below s is newer, and `live` is the first live one below s
+pub sooner-old : (q : Bool) (s : ℕ) {live : Option ℕ} {t : ℕ} → live ≡ Some t → Some t ≡ sooner q s live
 unfolding sooner
-sooner-kept true n s live e = rw e
-sooner-kept false n s live e = refl
+sooner-old q s o = rw o
 
-pub record Ascending (p q : ℕ → Bool) (n s live : ℕ) : Type 0 where
+module _ (s : ℕ) {live : Option ℕ} {b q : Bool} where
+  pub sooner-here : b ≡ q → live ≡ None → b ≡ true → Some s ≡ sooner q s live
+  unfolding sooner
+  sooner-here e o t = rw (o, ← e, t)
+
+  pub sooner-not : b ≡ q → live ≡ None → b ≡ false → None ≡ sooner q s live
+  unfolding sooner
+  sooner-not e o t = rw (o, ← e, t)
+
+pub record Ascending (p q : ℕ → Bool) (n s : ℕ) (live : Option ℕ) : Type 0 where
   pub low : s ≤ n
   pub none : (k : ℕ) → k < s → p k ≡ false
-  pub so_far : first q 0 n ≡ cond (ltb live n) live (first q s (n - s))
+  pub so_far : live ≡ first_of q s
 
-pub ascending-start : (p q : ℕ → Bool) (n : ℕ) → Ascending p q n 0 n
-ascending-start p q n =
-    let e : n - 0 ≡ n = omega arith in
-    record { low = omega arith; none = λ k h. absurd (omega arith); so_far = rw (le-ltb n n (omega arith), e) }
+pub ascending-start : (p q : ℕ → Bool) (n : ℕ) → Ascending p q n 0 None
+unfolding first_of
+ascending-start p q n = record { low = omega arith; none = λ k h. absurd (omega arith); so_far = refl }
 
-module _ {p q : ℕ → Bool} {n s live : ℕ} {a : Bool} (y : Ascending p q n s live) (h : s < n) (na : a ≡ p s) where
+module _ {p q : ℕ → Bool} {n s : ℕ} {live : Option ℕ} {a : Bool} (y : Ascending p q n s live) (h : s < n) (na : a ≡ p s) where
   ascending-newer : a ≡ true → any_of p n ≡ true
   ascending-newer t = some_at p n s h (sym na ∙ t)
 
-  module _ (live' : ℕ) (m : live' ≡ sooner (q s) n s live) where
-    first-kept : ltb live n ≡ true → first q 0 n ≡ cond (ltb live' n) live' (first q (s + 1) (n - (s + 1)))
-    first-kept t =
-        let v : live' ≡ live = m ∙ sooner-kept (q s) n s live t in
-        let u : first q 0 n ≡ live = rw t at y.so_far in
-        rw (v, t) u
-
-    first-here : ltb live n ≡ false → q s ≡ true → first q 0 n ≡ cond (ltb live' n) live' (first q (s + 1) (n - (s + 1)))
-    unfolding first sooner
-    first-here f x =
-        let e : n - s ≡ suc (n - (s + 1)) = omega arith in
-        let v : live' ≡ s = rw (x, f) at m in
-        let u : first q 0 n ≡ s = rw (f, e, x) at y.so_far in
-        rw (v, lt-ltb s n h) u
-
-    first-later : ltb live n ≡ false → q s ≡ false → first q 0 n ≡ cond (ltb live' n) live' (first q (s + 1) (n - (s + 1)))
-    unfolding first sooner
-    first-later f x =
-        let e : n - s ≡ suc (n - (s + 1)) = omega arith in
-        let v : live' ≡ live = rw x at m in
-        let u : first q 0 n ≡ first q (s + 1) (n - (s + 1)) = rw (f, e, x) at y.so_far in
-        rw (v, f) u
-
-  pub ascending-next : {live' : ℕ} → a ≡ false → live' ≡ sooner (q s) n s live → Ascending p q n (s + 1) live'
+  pub ascending-next : {live' : Option ℕ} → a ≡ false → live' ≡ sooner (q s) s live → Ascending p q n (s + 1) live'
+  unfolding first_of sooner
   ascending-next {live'} nf m =
       record {
         low = omega arith;
         none = λ k l.
             ⊎_elim (λ (e : k ≡ s). rw e (sym na ∙ nf)) (λ (u : k < s). y.none k u) (eq-or-lt_of_le (omega arith));
-        so_far =
-            ⊎_elim
-            (λ (t : ltb live n ≡ true). first-kept live' m t)
-            (λ (f : ltb live n ≡ false).
-            ⊎_elim
-            (λ (x : q s ≡ true). first-here live' m f x)
-            (λ (x : q s ≡ false). first-later live' m f x)
-            (cases (q s)))
-            (cases (ltb live n));
+        so_far = rw (add-one s, ← y.so_far) m;
       }
 
-pub ascending-pass : {p q : ℕ → Bool} {n s live : ℕ} (d : ℕ) → Ascending p q n s live → s + d ≤ n
+pub ascending-pass : {p q : ℕ → Bool} {n s : ℕ} {live : Option ℕ} (d : ℕ) → Ascending p q n s live → s + d ≤ n
     → ((j : ℕ) → s ≤ j → j < s + d → p j ≡ false) → ((j : ℕ) → s ≤ j → j < s + d → q j ≡ false) → Ascending p q n (s + d) live
+unfolding sooner
 ascending-pass {p} {q} {n} {s} {live} zero y h f g = let e : s + 0 ≡ s = omega arith in rw e y
 ascending-pass {p} {q} {n} {s} {live} (suc d) y h f g =
     let e : s + suc d ≡ s + d + 1 = omega arith in
     let u = ascending-pass d y (omega arith) (λ j a b. f j a (omega arith)) (λ j a b. g j a (omega arith)) in
-    rw e (ascending-next u (omega arith) refl (f (s + d) (omega arith) (omega arith)) (sooner-not n (s + d) live refl (g (s + d) (omega arith) (omega arith))))
+    rw e (ascending-next u (omega arith) refl (f (s + d) (omega arith) (omega arith)) (passed live (g (s + d) (omega arith) (omega arith))))
+  where
+    passed : {j : ℕ} (l : Option ℕ) → q j ≡ false → l ≡ sooner (q j) j l
+    passed (Some t) o = refl
+    passed None o = rw o
 
 -- ---- the two walks, at a slot of the chain with the key or at the end
 module _ (z : Sizes) (tb : Table) (key : ℕ) where
@@ -219,7 +186,7 @@ module _ (z : Sizes) (tb : Table) (key : ℕ) where
     pub at : s < z.n → Here s
     pub sought : Sought (live_on z tb (job_name key)) z.n s
 
-  pub record LookingUp (e s live : ℕ) : Type 0 where
+  pub record LookingUp (e s : ℕ) (live : Option ℕ) : Type 0 where
     pub at : s < z.n → Here s
     pub walk : Ascending (newer_on z tb (job_name key) e) (live_on z tb (job_name key)) z.n s live
 
@@ -238,7 +205,7 @@ module _ (z : Sizes) (tb : Table) (key : ℕ) where
           sought = rw reached at (sought-pass (s - from) y (omega (arith, next.top)) (λ j a b. live-none j (next.before j a (omega arith))));
         }
 
-    look-on : {e live : ℕ} → Ascending (newer_on z tb (job_name key) e) (live_on z tb (job_name key)) z.n from live → LookingUp e s live
+    look-on : {e : ℕ} {live : Option ℕ} → Ascending (newer_on z tb (job_name key) e) (live_on z tb (job_name key)) z.n from live → LookingUp e s live
     look-on {e} y =
         record {
           at = λ b. here s (next.passes b);
@@ -253,12 +220,12 @@ module _ (z : Sizes) (tb : Table) (key : ℕ) where
   finding-start q = find-on (omega arith) q (sought-start _ z.n)
 
   module _ {s : ℕ} (y : Finding s) where
-    pub finding-end : z.n ≤ s → Nothing ≡ live_slot z tb (job_name key)
+    pub finding-end : z.n ≤ s → None ≡ live_slot z tb (job_name key)
     unfolding live_slot
     finding-end h = found-end y.sought h
 
     module _ {a : Bool} (h : s < z.n) (q : a ≡ live_at z tb (job_at z tb.working s) s) where
-      pub finding-hit : a ≡ true → At s ≡ live_slot z tb (job_name key)
+      pub finding-hit : a ≡ true → Some s ≡ live_slot z tb (job_name key)
       unfolding live_slot
       finding-hit t = found-hit y.sought h (live_here (y.at h) q) t
 
@@ -266,16 +233,16 @@ module _ (z : Sizes) (tb : Table) (key : ℕ) where
       finding-next f k = find-on (omega arith) k (sought-next y.sought h (live_here (y.at h) q) f)
 
   -- both questions
-  pub looking-start : (e : ℕ) {s : ℕ} → s ≡ key_from z tb key 0 → LookingUp e s z.n
+  pub looking-start : (e : ℕ) {s : ℕ} → s ≡ key_from z tb key 0 → LookingUp e s None
   looking-start e q = look-on (omega arith) q (ascending-start _ _ z.n)
 
-  module _ (e : ℕ) {s live : ℕ} (y : LookingUp e s live) where
+  module _ (e : ℕ) {s : ℕ} {live : Option ℕ} (y : LookingUp e s live) where
     module _ {a : Bool} (h : s < z.n) (q : a ≡ newer_at z tb.working (job_at z tb.working s) e s) where
-      pub lookup-later : a ≡ true → Later ≡ lookup z tb (job_name key) e
+      pub lookup-later : a ≡ true → Err Newer ≡ lookup z tb (job_name key) e
       unfolding lookup
       lookup-later t = rw (ascending-newer y.walk h (newer-here (y.at h) e q) t)
 
-      pub looking-next : {live' s' : ℕ} → a ≡ false → live' ≡ sooner (live_at z tb (job_at z tb.working s) s) z.n s live
+      pub looking-next : {live' : Option ℕ} {s' : ℕ} → a ≡ false → live' ≡ sooner (live_at z tb (job_at z tb.working s) s) s live
           → s' ≡ key_from z tb key (s + 1) → LookingUp e s' live'
       looking-next f m k =
           look-on (omega arith) k (ascending-next y.walk h (newer-here (y.at h) e q) f (rw (live_here (y.at h) refl) at m))
@@ -283,31 +250,16 @@ module _ (z : Sizes) (tb : Table) (key : ℕ) where
     none-newer : z.n ≤ s → any_of (newer_on z tb (job_name key) e) z.n ≡ false
     none-newer h = none-some (newer_on z tb (job_name key) e) z.n (λ k l. y.walk.none k (omega (arith, y.walk.low)))
 
-    first-is : live < z.n → first (live_on z tb (job_name key)) 0 z.n ≡ live
-    first-is l = let u = y.walk.so_far in rw (lt-ltb live z.n l) at u
-
-    none-live : z.n ≤ s → z.n ≤ live → first (live_on z tb (job_name key)) 0 z.n ≡ z.n
-    unfolding first
-    none-live h l =
-        let a : z.n - s ≡ 0 = omega arith in
-        let b : s ≡ z.n = omega (arith, y.walk.low) in
-        let u : first (live_on z tb (job_name key)) 0 z.n ≡ s = rw (le-ltb live z.n l, a) at y.walk.so_far in
-        u ∙ b
-
-    pub lookup-live : z.n ≤ s → live < z.n → Live live ≡ lookup z tb (job_name key) e
+    pub lookup-found : z.n ≤ s → Ok live ≡ lookup z tb (job_name key) e
     unfolding lookup live_slot
-    lookup-live h l = rw (none-newer h, first-of (live_on z tb (job_name key)) z.n, first-is l, lt-ltb live z.n l)
-
-    pub lookup_absent : z.n ≤ s → z.n ≤ live → Absent ≡ lookup z tb (job_name key) e
-    unfolding lookup live_slot
-    lookup_absent h l = rw (none-newer h, first-of (live_on z tb (job_name key)) z.n, none-live h l, le-ltb z.n z.n (omega arith))
+    lookup-found h = let b : s ≡ z.n = omega (arith, y.walk.low) in rw (none-newer h, y.walk.so_far, b)
 
 -- the next slot is asked for from one of the chain
 module _ {wk tr : List ℕ} {z : Sizes} (key : ℕ) {s : ℕ} (y : Shaped wk tr z) (h : s < z.n) where
   pub finding-keyed : Finding z (table wk tr) key s → Keyed wk tr z key s
   finding-keyed u = record { shaped = y; within = h; on = (u.at h).on }
 
-  pub looking-keyed : {e live : ℕ} → LookingUp z (table wk tr) key e s live → Keyed wk tr z key s
+  pub looking-keyed : {e : ℕ} {live : Option ℕ} → LookingUp z (table wk tr) key e s live → Keyed wk tr z key s
   looking-keyed u = record { shaped = y; within = h; on = (u.at h).on }
 
 -- ---- round the table: the walk has met k slots, and s is the last of them
@@ -357,14 +309,14 @@ module _ {wk : List ℕ} {n last steps : ℕ} (z : RingStart wk n last steps) wh
   turning-header y h e = ring-header z h (e ∙ y.follows (omega (arith, z.few)))
 
 module _ {p : ℕ → Bool} {n last steps k s : ℕ} (y : Turning p n last steps k s) where
-  pub turning-end : steps ≤ k → Nothing ≡ first_round p n last steps
+  pub turning-end : steps ≤ k → None ≡ first_round p n last steps
   turning-end h = round-end y.rounding h
 
   module _ {s' : ℕ} {r : Bool} (h : k < steps) (e : s' ≡ next_slot n s) (t : r ≡ p s') where
     is : s' ≡ ring_slot n last k
     is = e ∙ y.follows (omega (arith, y.few))
 
-    pub turning-hit : r ≡ true → At s' ≡ first_round p n last steps
+    pub turning-hit : r ≡ true → Some s' ≡ first_round p n last steps
     turning-hit f = round-hit y.rounding h is t f
 
     pub turning-next : r ≡ false → Turning p n last steps (k + 1) s'
@@ -397,11 +349,11 @@ module _ {wk tr : List ℕ} {z : Sizes} {last : ℕ} (y : Entered wk tr z) (la :
         few = omega arith;
       }
 
-  module _ {f : Found} (e : f ≡ first_round (free_at wk) z.n last z.n) where
+  module _ {f : Option ℕ} (e : f ≡ first_round (free_at wk) z.n last z.n) where
     round_is : f ≡ first_round (free_at wk) z.n (note last_at tr) z.n
     round_is = rw la at e
 
-    none_free : (k : ℕ) → f ≡ Nothing → Nothing ≡ room z (table wk tr) k
+    none_free : (k : ℕ) → f ≡ None → None ≡ room z (table wk tr) k
     unfolding room
     none_free k a =
         ⊎_elim
@@ -409,33 +361,33 @@ module _ {wk tr : List ℕ} {z : Sizes} {last : ℕ} (y : Entered wk tr z) (la :
         (λ (u : leb k (count (free_at wk) z.n) ≡ false). rw u)
         (cases (leb k (count (free_at wk) z.n)))
 
-    one_free : {s : ℕ} → f ≡ At s → f ≡ room z (table wk tr) 1
+    one_free : {s : ℕ} → f ≡ Some s → f ≡ room z (table wk tr) 1
     unfolding room
     one_free {s} a = rw (round-one (free_at wk) z.n (note last_at tr) s y.last (sym round_is ∙ a)) round_is
 
     pub room-one : f ≡ room z (table wk tr) 1
     room-one = go f refl
       where
-        go : (g : Found) → f ≡ g → f ≡ room z (table wk tr) 1
-        go (At s) q = one_free q
-        go Nothing q = q ∙ none_free 1 q
+        go : (g : Option ℕ) → f ≡ g → f ≡ room z (table wk tr) 1
+        go (Some s) q = one_free q
+        go None q = q ∙ none_free 1 q
 
-    pub room-none : f ≡ Nothing → Nothing ≡ room z (table wk tr) 2
+    pub room-none : f ≡ None → None ≡ room z (table wk tr) 2
     room-none a = none_free 2 a
 
-    module _ {s : ℕ} (a : f ≡ At s) where
+    module _ {s : ℕ} (a : f ≡ Some s) where
       free-s : (s < z.n) × (free_at wk s ≡ true)
       free-s = round-found (free_at wk) z.n (note last_at tr) z.n s y.last (omega arith) (sym round_is ∙ a)
 
       pub rooms-rest : RingStart wk z.n s (z.n - 1)
       rooms-rest = record { long = rooms-all.long; slots-hi = rooms-all.slots-hi; from = free-s.0; few = omega arith }
 
-      module _ {g : Found} (o : g ≡ first_round (free_at wk) z.n s (z.n - 1)) where
-        pub room-two : {u : ℕ} → g ≡ At u → At s ≡ room z (table wk tr) 2
+      module _ {g : Option ℕ} (o : g ≡ first_round (free_at wk) z.n s (z.n - 1)) where
+        pub room-two : {u : ℕ} → g ≡ Some u → Some s ≡ room z (table wk tr) 2
         unfolding room
         room-two {u} b = rw (round-another (free_at wk) z.n s u free-s.0 free-s.1 (sym o ∙ b), ← round_is, a)
 
-        pub room-alone : g ≡ Nothing → Nothing ≡ room z (table wk tr) 2
+        pub room-alone : g ≡ None → None ≡ room z (table wk tr) 2
         unfolding room
         room-alone b = rw (round-alone (free_at wk) z.n s free-s.0 free-s.1 (sym o ∙ b))
 
@@ -484,6 +436,6 @@ module _ (z : Sizes) (tr : List ℕ) (e s : ℕ) where
   unfolding freed
   freed-done name r u = rw (u, r)
 
-pub ruleset finds = (next-ahead, next-round, turning-start, turning-ring, turning-header, turning-end, turning-hit, turning-next, shaped-slot, shaped_in, slot-note, slot-working, slot-head, slot-header, job-named, newer-other, newer-free, newer-epoch, live-other, live-not, live-retired, sooner-old, sooner-here, sooner-not, key-less, finding-keyed, looking-keyed, finding-start, finding-next, finding-hit, finding-end, looking-start, looking-next, lookup-later, lookup-live, lookup_absent, free-no, free-yes, entered-head, rooms-all, rooms-rest, room-one, room-none, room-two, room-alone)
+pub ruleset finds = (next-ahead, next-round, turning-start, turning-ring, turning-header, turning-end, turning-hit, turning-next, shaped-slot, shaped_in, slot-note, slot-working, slot-head, slot-header, job-named, newer-other, newer-free, newer-epoch, live-other, live-not, live-retired, sooner-old, sooner-here, sooner-not, key-less, finding-keyed, looking-keyed, finding-start, finding-next, finding-hit, finding-end, looking-start, looking-next, lookup-later, lookup-found, free-no, free-yes, entered-head, rooms-all, rooms-rest, room-one, room-none, room-two, room-alone)
 
 pub ruleset fills = (slot_of, key_in, value-fits, value_room, key_set, value_set, slot-value, value-slot, slot-after, header-after, filled-value, filled-zeros, note-head, note-slot, note-after, joined-long, taken-done, joined-done, freed-done)

@@ -1,11 +1,11 @@
 -- What a call looks up in the working table.
-use Rattle.std.specs.Prelude.{ℕ, Bool, not, cond, ◌&&◌, List, leb, ltb, eqb}
-use Rattle.search.specs.First.{first_of, where_found}
+use Rattle.reply.specs.declared.Refusal.TheVariants.{Newer}
+use Rattle.reply.specs.declared.Refusal.{Refusal}
+use Rattle.std.specs.Prelude.{ℕ, Bool, not, cond, ◌&&◌, List, leb, ltb, eqb, Option, None, Some, Result, Ok, Err}
+use Rattle.search.specs.First.{first_of}
 use Rattle.search.specs.Some.{any_of}
 use Rattle.search.specs.Count.{count}
 use Rattle.search.specs.Ring.{first_round}
-use Rattle.search.specs.declared.Found.{Found}
-use Rattle.search.specs.declared.Found.TheVariants.{Nothing}
 use Rattle.image.specs.Layout.{is_filled, is_payload, header}
 use Rattle.image.specs.declared.name.Name.{Name}
 use Rattle.image.specs.Name.{name_at, same_name}
@@ -13,8 +13,6 @@ use Rattle.transient.specs.declared.sizes.Sizes.{Sizes}
 use Rattle.transient.specs.Layout.{note, last_at, retired_in}
 use Rattle.transient.specs.Store.{Table}
 use Rattle.index.specs.Index.{bucket_of, on_chain}
-use Rattle.table.specs.declared.find.Lookup.{Lookup}
-use Rattle.table.specs.declared.find.Lookup.TheVariants.{Later, Live, Absent}
 
 -- refusal 9: "a filled slot with this key is labelled above e"
 unfoldable pub newer_at : Sizes → List ℕ → Name → ℕ → ℕ → Bool
@@ -36,18 +34,18 @@ unfoldable pub live_on : Sizes → Table → Name → ℕ → Bool
 live_on z tb name s = listed z tb.transient name s && live_at z tb name s
 
 -- "of several live slots with one key, the lowest"
-unfoldable pub live_slot : Sizes → Table → Name → Found
+unfoldable pub live_slot : Sizes → Table → Name → Option ℕ
 live_slot z tb name = first_of (live_on z tb name) z.n
 
 -- by what a key finds: a later epoch has it, a live slot holds it, or neither
-abbrev pub by_lookup : {A : Type 0} → Lookup → A → (ℕ → A) → A → A
-by_lookup Later later live absent = later
-by_lookup (Live s) later live absent = live s
-by_lookup Absent later live absent = absent
+abbrev pub by_lookup : {A : Type 0} → Result (Option ℕ) Refusal → (Refusal → A) → (ℕ → A) → A → A
+by_lookup (Err r) declined live absent = declined r
+by_lookup (Ok (Some s)) declined live absent = live s
+by_lookup (Ok None) declined live absent = absent
 
 -- refusal 9 first, then the live job
-unfoldable pub lookup : Sizes → Table → Name → ℕ → Lookup
-lookup z tb name e = cond (any_of (newer_on z tb name e) z.n) Later (where_found (live_slot z tb name) Live Absent)
+unfoldable pub lookup : Sizes → Table → Name → ℕ → Result (Option ℕ) Refusal
+lookup z tb name e = cond (any_of (newer_on z tb name e) z.n) (Err Newer) (Ok (live_slot z tb name))
 
 -- "Calls other than recover take a kind above 3 as free"
 unfoldable pub free_at : List ℕ → ℕ → Bool
@@ -55,6 +53,6 @@ free_at wk s = not (is_filled (header wk s))
 
 -- "The free slot taken is the first met going up from the slot after the last one taken, round past the end"; k must be free:
 -- "New and set need two free slots when they take one, delete needs one"
-unfoldable pub room : Sizes → Table → ℕ → Found
+unfoldable pub room : Sizes → Table → ℕ → Option ℕ
 room z tb k =
-    cond (leb k (count (free_at tb.working) z.n)) (first_round (free_at tb.working) z.n (note last_at tb.transient) z.n) Nothing
+    cond (leb k (count (free_at tb.working) z.n)) (first_round (free_at tb.working) z.n (note last_at tb.transient) z.n) None

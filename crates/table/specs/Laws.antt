@@ -1,5 +1,6 @@
 -- Get/set laws of filling a slot and of rewriting its value; and that a slot found is one of the table.
-use Rattle.std.specs.Prelude.{ℕ, zero, suc, ◌+◌, ◌<◌, ◌≢◌, true, false, length, set}
+use Rattle.reply.specs.declared.Refusal.TheVariants.{Newer}
+use Rattle.std.specs.Prelude.{ℕ, zero, suc, ◌+◌, ◌<◌, ◌≢◌, true, false, length, set, Option, Some, None, Ok, Err}
 use Rattle.std.proofs.Math.Path.{◌≡◌, refl, ap}
 use Rattle.std.proofs.Common.{sym, ◌∙◌}
 use Rattle.std.proofs.Math.Logic.{⊎_elim}
@@ -12,8 +13,6 @@ use Rattle.search.specs.Bools.{cases}
 use Rattle.search.specs.First.{found_first}
 use Rattle.search.specs.Count.{count}
 use Rattle.search.specs.Ring.{first_round, round-found}
-use Rattle.search.specs.declared.Found.{Found}
-use Rattle.search.specs.declared.Found.TheVariants.{At, Nothing}
 use Rattle.image.specs.declared.header.Header.{Header}
 use Rattle.image.specs.Layout.{contents_at, is_filled, header, contents, key_at}
 use Rattle.image.specs.Line.{header_line, contents_line, stored, store_line}
@@ -24,7 +23,6 @@ use Rattle.image.specs.Laws.{length-store, header-same, header-other, contents-p
 use Rattle.transient.specs.declared.sizes.Sizes.{Sizes}
 use Rattle.transient.specs.Layout.{note, last_at}
 use Rattle.transient.specs.Store.{Table}
-use Rattle.table.specs.declared.find.Lookup.TheVariants.{Later, Live}
 use Rattle.table.specs.Find.{live_on, live_slot, lookup, free_at, room}
 use Rattle.table.specs.Fill.{filled_slot}
 use Rattle.table.specs.Requires.{newer, looked_up, set_value}
@@ -83,28 +81,28 @@ pub record Called (z : Sizes) (wk : List ℕ) (name : Name) (s : ℕ) : Type 0 w
 
 -- ---- a slot found is one of the table
 module _ (z : Sizes) (tb : Table) where
-  pub room-below : (k s : ℕ) → note last_at tb.transient < z.n → room z tb k ≡ At s → s < z.n
+  pub room-below : (k s : ℕ) → note last_at tb.transient < z.n → room z tb k ≡ Some s → s < z.n
   unfolding room
   room-below k s h e =
       ⊎_elim
       (λ (t : leb k (count (free_at tb.working) z.n) ≡ true).
-      let q : first_round (free_at tb.working) z.n (note last_at tb.transient) z.n ≡ At s = rw t at e in
+      let q : first_round (free_at tb.working) z.n (note last_at tb.transient) z.n ≡ Some s = rw t at e in
       (round-found (free_at tb.working) z.n (note last_at tb.transient) z.n s h (omega arith) q).0)
-      (λ (u : leb k (count (free_at tb.working) z.n) ≡ false). let q : Nothing ≡ At s = rw u at e in let y : ◌≡◌ {A = ℕ} 0 1 = cc in absurd (omega arith))
+      (λ (u : leb k (count (free_at tb.working) z.n) ≡ false). let q : None ≡ Some s = rw u at e in let y : ◌≡◌ {A = ℕ} 0 1 = cc in absurd (omega arith))
       (cases (leb k (count (free_at tb.working) z.n)))
 
-  pub live_below : (name : Name) (s : ℕ) → live_slot z tb name ≡ At s → s < z.n
+  pub live_below : (name : Name) (s : ℕ) → live_slot z tb name ≡ Some s → s < z.n
   unfolding live_slot
   live_below name s e = (found_first (live_on z tb name) z.n e).below
 
-  pub lookup-below : (name : Name) (e s : ℕ) → lookup z tb name e ≡ Live s → s < z.n
+  pub lookup-below : (name : Name) (e s : ℕ) → lookup z tb name e ≡ Ok (Some s) → s < z.n
   unfolding lookup newer
   lookup-below name e s h =
       ⊎_elim
-      (λ (y : newer z tb name e ≡ true). let q : Later ≡ Live s = rw y at h in let x : ◌≡◌ {A = ℕ} 0 1 = cc in absurd (omega arith))
-      (λ (y : newer z tb name e ≡ false). let q : looked_up (live_slot z tb name) ≡ Live s = rw y at h in go (live_slot z tb name) refl q)
+      (λ (y : newer z tb name e ≡ true). let q : Err Newer ≡ Ok (Some s) = rw y at h in let x : ◌≡◌ {A = ℕ} 0 1 = cc in absurd (omega arith))
+      (λ (y : newer z tb name e ≡ false). let q : looked_up (live_slot z tb name) ≡ Ok (Some s) = rw y at h in go (live_slot z tb name) refl q)
       (cases (newer z tb name e))
     where
-      go : (f : Found) → live_slot z tb name ≡ f → looked_up f ≡ Live s → s < z.n
-      go (At u) q r = let x : u ≡ s = cc in let b : u < z.n = live_below name u q in omega arith
-      go Nothing q r = let x : ◌≡◌ {A = ℕ} 0 1 = cc in absurd (omega arith)
+      go : (f : Option ℕ) → live_slot z tb name ≡ f → looked_up f ≡ Ok (Some s) → s < z.n
+      go (Some u) q r = let x : u ≡ s = cc in let b : u < z.n = live_below name u q in omega arith
+      go None q r = let x : ◌≡◌ {A = ℕ} 0 1 = cc in absurd (omega arith)

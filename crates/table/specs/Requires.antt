@@ -1,11 +1,11 @@
 -- What functions inside require: a place on the way round the table, slots whose keys are looked at, and a value for a slot. And
 -- what contracts inside and laws name: the next slot with a key, parts of a look-up, and a value stored.
-use Rattle.std.specs.Prelude.{ℕ, ◌+◌, ◌*◌, ◌-◌, ◌≤◌, ◌<◌, ◌≡◌, Bool, true, cond, ◌&&◌, List, length, ltb, eqb}
+use Rattle.reply.specs.declared.Refusal.{Refusal}
+use Rattle.std.specs.Prelude.{ℕ, ◌+◌, ◌*◌, ◌-◌, ◌≤◌, ◌<◌, ◌≡◌, Bool, true, cond, ◌&&◌, List, length, ltb, eqb, Option, Some, None, Result, Ok}
 use Rattle.std.proofs.Common.{arith}
 use Rattle.search.specs.First.{first, where_found}
 use Rattle.search.specs.Some.{any_of}
 use Rattle.search.specs.Ring.{ring_slot, ring-below}
-use Rattle.search.specs.declared.Found.{Found}
 use Rattle.image.specs.Layout.{most_slots, header_words, contents_at, key_at}
 use Rattle.image.specs.Line.{store_line}
 use Rattle.image.specs.declared.name.Name.{Name}
@@ -14,8 +14,6 @@ use Rattle.image.specs.Requires.{Slot, HeaderFits, slot, slot-header, slot-after
 use Rattle.transient.specs.declared.sizes.Sizes.{Sizes}
 use Rattle.transient.specs.Store.{Table}
 use Rattle.transient.specs.Requires.{Shaped}
-use Rattle.table.specs.declared.find.Lookup.{Lookup}
-use Rattle.table.specs.declared.find.Lookup.TheVariants.{Live, Absent}
 use Rattle.table.specs.Find.{listed, newer_on}
 
 -- ---- round the table
@@ -68,16 +66,16 @@ pub record Keyed (wk tr : List ℕ) (z : Sizes) (key s : ℕ) : Type 0 where
   pub within : s < z.n
   pub on : listed z tr (job_name key) s ≡ true
 
--- the first one up to s, where `live` is the first one below s, or n
-unfoldable pub sooner : Bool → ℕ → ℕ → ℕ → ℕ
-sooner b n s live = cond b (cond (ltb live n) live s) live
+-- the first one up to s, where `live` is the first one below s
+unfoldable pub sooner : Bool → ℕ → Option ℕ → Option ℕ
+sooner b s live = where_found live Some (cond b (Some s) None)
 
 -- ---- a look-up: refusal 9, and the live slot
 unfoldable pub newer : Sizes → Table → Name → ℕ → Bool
 newer z tb name e = any_of (newer_on z tb name e) z.n
 
-abbrev pub looked_up : Found → Lookup
-looked_up f = where_found f Live Absent
+abbrev pub looked_up : Option ℕ → Result (Option ℕ) Refusal
+looked_up f = Ok f
 
 -- ---- a value for a slot
 -- the value words of a slot

@@ -1,11 +1,12 @@
 -- 02, No. 6: "Wherever it holds each filled slot under its board and key, and no other slot, .. each reply and each image equals what the
 -- walk gives": the look-ups as a walk of the whole table, and that with a right index those along a chain are the same.
-use Rattle.std.specs.Prelude.{ℕ, ◌<◌, ◌≡◌, Bool, true, cond, ◌&&◌, List}
+use Rattle.reply.specs.declared.Refusal.TheVariants.{Newer}
+use Rattle.reply.specs.declared.Refusal.{Refusal}
+use Rattle.std.specs.Prelude.{ℕ, ◌<◌, ◌≡◌, Bool, true, cond, ◌&&◌, List, Option, Result, Ok, Err}
 use Rattle.std.proofs.Math.Dec.{eqb}
 use Rattle.search.specs.Bools.{same_test, and_left, and_right, and_both}
-use Rattle.search.specs.First.{first_of, first_of-same, where_found}
+use Rattle.search.specs.First.{first_of, first_of-same}
 use Rattle.search.specs.Some.{any_of, some_same}
-use Rattle.search.specs.declared.Found.{Found}
 use Rattle.image.specs.Layout.{is_filled, is_payload, header}
 use Rattle.image.specs.Whole.{payload-filled}
 use Rattle.image.specs.declared.name.Name.{Name}
@@ -14,18 +15,16 @@ use Rattle.transient.specs.declared.sizes.Sizes.{Sizes}
 use Rattle.transient.specs.Layout.{retired_in}
 use Rattle.transient.specs.Store.{Table, table}
 use Rattle.index.specs.Indexed.{Indexed, indexed-listed}
-use Rattle.table.specs.declared.find.Lookup.{Lookup}
-use Rattle.table.specs.declared.find.Lookup.TheVariants.{Later, Live, Absent}
 use Rattle.table.specs.Find.{newer_at, live_at, listed, newer_on, live_on, live_slot, lookup}
 use Rattle.table.specs.Laws.{Called}
 
 -- "of several live slots with one key, the lowest", among all slots
-unfoldable pub walk_live : Sizes → Table → Name → Found
+unfoldable pub walk_live : Sizes → Table → Name → Option ℕ
 walk_live z tb name = first_of (live_at z tb name) z.n
 
 -- refusal 9: "a filled slot with this key is labelled above e", whichever slot it is; then the live job
-unfoldable pub walk_lookup : Sizes → Table → Name → ℕ → Lookup
-walk_lookup z tb name e = cond (any_of (newer_at z tb.working name e) z.n) Later (where_found (walk_live z tb name) Live Absent)
+unfoldable pub walk_lookup : Sizes → Table → Name → ℕ → Result (Option ℕ) Refusal
+walk_lookup z tb name e = cond (any_of (newer_at z tb.working name e) z.n) (Err Newer) (Ok (walk_live z tb name))
 
 -- ---- a slot that a look-up may find is filled, under the name
 module _ (z : Sizes) (name : Name) (s : ℕ) where

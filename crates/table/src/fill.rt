@@ -1,4 +1,6 @@
 // How a slot of the working table is filled, and what the notes then say.
+#![tactic(auto, using(crate::specs::Exits::fills))]
+
 ghost use Rattle.std.specs.Prelude.{◌≡◌, ◌-◌, replicate, set, ◌∷◌};
 ghost use Rattle.image.specs.Layout.{contents_at};
 ghost use Rattle.image.specs.Requires.{Slot};
@@ -61,7 +63,7 @@ pub fn note_taken(transient: &mut [u32], z: Sizes, e: u32, s: usize, name: Name)
     requires { NoteOf transient.old z s }
     ensures { transient.new ≡ taken z transient.old e s name }
 {
-    transient::notes::set_last(transient, image::shape::narrow(s));
+    transient::notes::set_last(transient, s as u32);
     join(transient, z, e, s);
     index::insert(transient, z, name, s);
 }

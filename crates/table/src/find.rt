@@ -1,4 +1,6 @@
 // Searches over the table.
+#![tactic(auto, using(crate::specs::Exits::finds))]
+
 ghost use Rattle.std.specs.Prelude.{◌≡◌, ◌+◌};
 ghost use Rattle.search.specs.Ring.{first_round};
 ghost use Rattle.image.specs.Name.{job_name, name_at, same_name};
@@ -10,17 +12,10 @@ ghost use Rattle.table.specs.Requires.{job_at, has_key, key_from, OnChain, Keyed
 
 use image::header::Header;
 use image::name::Name;
-use search::Found;
+use reply::Refusal;
 use transient::sizes::Sizes;
 
-// What a key finds for an operation: a later epoch has it, a live slot holds it, or neither.
-#[derive(Clone, Copy)]
-pub enum Lookup {
-    Later,
-    Live(usize),
-    Absent,
-}
-
+#[tactic(auto, using(crate::specs::KeyExits::keys))]
 fn has_key(working: &[u32], z: Sizes, key: u32, s: usize) -> bool
     requires { Slot working.now z.n z.w s }
     ensures { result ≡ has_key z working.now key s }
@@ -29,6 +24,7 @@ fn has_key(working: &[u32], z: Sizes, key: u32, s: usize) -> bool
 }
 
 // The first slot with the key on the chain of its job, from slot `from` of it on, or n.
+#[tactic(auto, using(crate::specs::KeyExits::keys))]
 fn key_on(working: &[u32], transient: &[u32], z: Sizes, key: u32, from: usize) -> usize
     requires { OnChain working.now transient.now z key from }
     ensures { result ≡ key_from z (table working.now transient.now) key from }
@@ -44,6 +40,7 @@ fn key_on(working: &[u32], transient: &[u32], z: Sizes, key: u32, from: usize) -
 }
 
 // The first of all.
+#[tactic(auto, using(crate::specs::KeyExits::keys))]
 fn key_first(working: &[u32], transient: &[u32], z: Sizes, key: u32) -> usize
     requires { Shaped working.now transient.now z }
     ensures { result ≡ key_from z (table working.now transient.now) key 0 }
@@ -53,6 +50,7 @@ fn key_first(working: &[u32], transient: &[u32], z: Sizes, key: u32) -> usize
 }
 
 // The one that follows slot s.
+#[tactic(auto, using(crate::specs::KeyExits::keys))]
 fn key_next(working: &[u32], transient: &[u32], z: Sizes, key: u32, s: usize) -> usize
     requires { Keyed working.now transient.now z key s }
     ensures { result ≡ key_from z (table working.now transient.now) key (s + 1) }
@@ -75,11 +73,7 @@ fn newer_at(working: &[u32], z: Sizes, e: u32, s: usize) -> bool
 {
     if of_job(working, z, s) {
         let h = image::header::header_at(working, z.n, s);
-        if image::header::filled(h) {
-            e < h.epoch
-        } else {
-            false
-        }
+        if h.is_filled() { e < h.epoch } else { false }
     } else {
         false
     }
@@ -91,7 +85,7 @@ fn live_at(working: &[u32], transient: &[u32], z: Sizes, s: usize) -> bool
 {
     if of_job(working, z, s) {
         let h = image::header::header_at(working, z.n, s);
-        if image::header::payload(h) {
+        if h.is_payload() {
             transient::notes::retired_in(transient, z, s) == 0
         } else {
             false
@@ -102,54 +96,67 @@ fn live_at(working: &[u32], transient: &[u32], z: Sizes, s: usize) -> bool
 }
 
 // The lowest live slot of a key.
-pub fn find_live(working: &[u32], transient: &[u32], z: Sizes, key: u32) -> Found
+pub fn find_live(working: &[u32], transient: &[u32], z: Sizes, key: u32) -> Option<usize>
     requires { Shaped working.now transient.now z }
     ensures { result ≡ live_slot z (table working.now transient.now) (job_name key) }
 {
     let mut s = key_first(working, transient, z, key);
     while s < z.n {
         if live_at(working, transient, z, s) {
-            return Found::At(s);
+            return Some(s);
         }
         s = key_next(working, transient, z, key, s);
     }
-    Found::Nothing
+    None
 }
 
-// The first live slot up to s, where `live` is the first one below s, or n.
-fn live_up_to(working: &[u32], transient: &[u32], z: Sizes, s: usize, live: usize) -> usize
+// The first live slot up to s, where `live` is the first one below s.
+fn live_up_to(
+    working: &[u32],
+    transient: &[u32],
+    z: Sizes,
+    s: usize,
+    live: Option<usize>,
+) -> Option<usize>
     requires { ShapedSlot working.now transient.now z s }
-    ensures { result ≡ sooner (live_at z (table working.now transient.now) (job_at z working.now s) s) z.n s live }
+    ensures { result ≡ sooner (live_at z (table working.now transient.now) (job_at z working.now s) s) s live }
 {
-    if live_at(working, transient, z, s) {
-        if live < z.n { live } else { s }
-    } else {
-        live
+    match live {
+        Some(t) => Some(t),
+        None => {
+            if live_at(working, transient, z, s) {
+                Some(s)
+            } else {
+                None
+            }
+        }
     }
 }
 
 // Both questions in one walk up the chain, from one slot with the key to the next.
-pub fn look_up(working: &[u32], transient: &[u32], z: Sizes, key: u32, e: u32) -> Lookup
+pub fn look_up(
+    working: &[u32],
+    transient: &[u32],
+    z: Sizes,
+    key: u32,
+    e: u32,
+) -> Result<Option<usize>, Refusal>
     requires { Shaped working.now transient.now z }
     ensures { result ≡ lookup z (table working.now transient.now) (job_name key) e }
 {
     // Lent anew, the slices come in registers; one that is only handed on comes through memory.
     let working = &working[..];
     let transient = &transient[..];
-    let mut live = z.n;
+    let mut live = None;
     let mut s = key_first(working, transient, z, key);
     while s < z.n {
         if newer_at(working, z, e, s) {
-            return Lookup::Later;
+            return Err(Refusal::Newer);
         }
         live = live_up_to(working, transient, z, s, live);
         s = key_next(working, transient, z, key, s);
     }
-    if live < z.n {
-        Lookup::Live(live)
-    } else {
-        Lookup::Absent
-    }
+    Ok(live)
 }
 
 fn free_at(working: &[u32], n: usize, s: usize) -> bool
@@ -157,11 +164,7 @@ fn free_at(working: &[u32], n: usize, s: usize) -> bool
     ensures { result ≡ free_at working.now s }
 {
     let h = image::header::header_at(working, n, s);
-    if image::header::filled(h) {
-        false
-    } else {
-        true
-    }
+    if h.is_filled() { false } else { true }
 }
 
 // The slot that follows s, round past the end.
@@ -173,7 +176,7 @@ fn next_slot(n: usize, s: usize) -> usize
 }
 
 // The first free slot met going up from the slot after `last`, round past the end, within `steps`.
-pub fn free_slot(working: &[u32], n: usize, last: usize, steps: usize) -> Found
+pub fn free_slot(working: &[u32], n: usize, last: usize, steps: usize) -> Option<usize>
     requires { RingStart working.now n last steps }
     ensures { result ≡ first_round (free_at working.now) n last steps }
 {
@@ -181,11 +184,11 @@ pub fn free_slot(working: &[u32], n: usize, last: usize, steps: usize) -> Found
     let mut s = last;
     let got = loop {
         if steps <= k {
-            break Found::Nothing;
+            break None;
         }
         s = next_slot(n, s);
         if free_at(working, n, s) {
-            break Found::At(s);
+            break Some(s);
         }
         k += 1;
     };
@@ -193,7 +196,7 @@ pub fn free_slot(working: &[u32], n: usize, last: usize, steps: usize) -> Found
 }
 
 // The slot to take where one free slot is enough.
-pub fn room_for_one(working: &[u32], transient: &[u32], z: Sizes) -> Found
+pub fn room_for_one(working: &[u32], transient: &[u32], z: Sizes) -> Option<usize>
     requires { Entered working.now transient.now z }
     ensures { result ≡ room z (table working.now transient.now) 1 }
 {
@@ -201,15 +204,11 @@ pub fn room_for_one(working: &[u32], transient: &[u32], z: Sizes) -> Found
 }
 
 // The slot to take where two must be free, so that a full board can still be emptied.
-pub fn room_for_two(working: &[u32], transient: &[u32], z: Sizes) -> Found
+pub fn room_for_two(working: &[u32], transient: &[u32], z: Sizes) -> Option<usize>
     requires { Entered working.now transient.now z }
     ensures { result ≡ room z (table working.now transient.now) 2 }
 {
-    let Found::At(s) = free_slot(working, z.n, transient::notes::last_taken(transient), z.n) else {
-        return Found::Nothing;
-    };
-    match free_slot(working, z.n, s, z.n - 1) {
-        Found::At(_) => Found::At(s),
-        Found::Nothing => Found::Nothing,
-    }
+    let s = free_slot(working, z.n, transient::notes::last_taken(transient), z.n)?;
+    free_slot(working, z.n, s, z.n - 1)?;
+    Some(s)
 }

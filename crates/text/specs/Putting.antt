@@ -1,73 +1,11 @@
--- What putting a text into a buffer leaves, and the loops that do it.
-use Rattle.std.specs.Prelude.{ℕ, zero, suc, ◌+◌, ◌*◌, ◌-◌, ◌^◌, ◌/◌, ◌%◌, ◌≤◌, ◌<◌, ◌≡◌, refl, List, [], ◌∷◌, ◌++◌, true, false, ltb, length, get_or, set, take}
-use Rattle.std.proofs.Common.{sym, ap, ◌∙◌, append_assoc, append-nil, ⊎_elim, length-set, length-append, length-take-le, take_all, take-suc, take-suc-set, lt-ltb, le-ltb, pow-suc, mod-eq_of_lt, div-add-mod', add-one, arith, pow-add}
+-- Why each number that is pushed is spelt as `decimal` and `spaced` have it, and how much room it takes at most.
+use Rattle.std.specs.Prelude.{ℕ, zero, suc, ◌+◌, ◌*◌, ◌-◌, ◌^◌, ◌/◌, ◌%◌, ◌≤◌, ◌<◌, ◌≡◌, refl, List, [], ◌∷◌, ◌++◌, true, false, ltb, length, get_or, take}
+use Rattle.std.proofs.Common.{◌∙◌, append_assoc, append-nil, ⊎_elim, length-append, length-take-le, take_all, take-suc, lt-ltb, le-ltb, pow-suc, mod-eq_of_lt, div-add-mod', add-one, arith, pow-add}
 use Rattle.std.proofs.Math.Decide.{dec_le}
 use Rattle.search.specs.Bools.{cases}
 use Rattle.io.specs.Counts.{IsPrefixLen}
 use Rattle.io.specs.Digits.{last_digits, IsDigitCount}
 use Rattle.text.specs.Text.{digits_in, decimal, spaced}
-
--- `after` has a text behind the first `at` bytes of `before`; it ends at `end`
-pub record Appended (before : List ℕ) (at : ℕ) (text : List ℕ) (after : List ℕ) (end : ℕ) : Type 0 where
-  pub long : length after ≡ length before
-  pub ends : end ≡ at + length text
-  pub is : take end after ≡ take at before ++ text
-
--- no text
-pub put-none : (before : List ℕ) (at : ℕ) → Appended before at [] before at
-put-none before at = record { long = refl; ends = omega arith; is = sym (append-nil (take at before)) }
-
--- one text, and behind it another
-pub put_both : {a b c s t : List ℕ} {at m e : ℕ} → Appended a at s b m → Appended b m t c e → Appended a at (s ++ t) c e
-put_both {a} {b} {c} {s} {t} {at} {m} {e} x y =
-    record {
-      long = y.long ∙ x.long;
-      ends = simp length-append (omega (arith, x.ends, y.ends));
-      is = y.is ∙ ap (λ z. z ++ t) x.is ∙ append_assoc (take at a) s t;
-    }
-
--- a whole line: the first `end` bytes of the buffer, which is as long as before
-pub record Spelt (before : List ℕ) (text : List ℕ) (after : List ℕ) (end : ℕ) : Type 0 where
-  pub room : length after ≡ length before
-  pub fits : end ≤ length after
-  pub long : end ≡ length (take end after)
-  pub is : take end after ≡ text
-
-pub line_of : {before text after : List ℕ} {end : ℕ} → Appended before 0 text after end → length text ≤ length before → Spelt before text after end
-line_of {before} {text} {after} {end} p h =
-    let f : end ≤ length after = omega (arith, p.long, p.ends) in
-    record { room = p.long; fits = f; long = sym (length-take-le end after f); is = p.is }
-
--- ---- a loop has put i bytes
-pub record Putting (before : List ℕ) (at : ℕ) (part : List ℕ) (i : ℕ) (out : List ℕ) : Type 0 where
-  pub low : i ≤ length part
-  pub so_far : Appended before at (take i part) out (at + i)
-
-pub putting-start : (before : List ℕ) (at : ℕ) (part : List ℕ) → Putting before at part 0 before
-putting-start before at part = let e : at + 0 ≡ at = omega arith in record { low = omega arith; so_far = rw e (put-none before at) }
-
-pub putting-next : {before : List ℕ} {at : ℕ} {part : List ℕ} {i : ℕ} {out : List ℕ} {v : ℕ} → Putting before at part i out → i < length part
-    → at + length part ≤ length before → v ≡ get_or part i 0 → Putting before at part (i + 1) (set out (at + i) v)
-putting-next {before} {at} {part} {i} {out} {v} z h room e =
-    let up : at + (i + 1) ≡ suc (at + i) = omega arith in
-    let fits : at + i < length out = omega (arith, z.so_far.long) in
-    record {
-      low = omega arith;
-      so_far =
-          record {
-            long = length-set out (at + i) v ∙ z.so_far.long;
-            ends = rw (length-take-le (i + 1) part (omega arith)) refl;
-            is =
-                rw (up, take-suc-set out (at + i) v fits, z.so_far.is, append_assoc (take at before) (take i part) (v ∷ []), e, add-one i, take-suc part i 0 h);
-          };
-    }
-
-pub putting-end : {before : List ℕ} {at : ℕ} {part : List ℕ} {i : ℕ} {out : List ℕ} → Putting before at part i out → length part ≤ i → Appended before at part out (at + i)
-putting-end {before} {at} {part} {i} z h = rw (take_all i part h) at z.so_far
-
-pub putting-fits : {before : List ℕ} {at : ℕ} {part : List ℕ} {i : ℕ} {out : List ℕ} → Putting before at part i out → i < length part
-    → at + length part ≤ length before → at + i < length out
-putting-fits z h room = omega (arith, z.so_far.long)
 
 -- ---- numbers: what the toolchain's `decimal` spells
 power-ten : (j : ℕ) → 1 ≤ 10 ^ j
@@ -111,9 +49,13 @@ module _ (x k : ℕ) (ds : List ℕ) (c : IsPrefixLen k ds) (f : IsDigitCount 10
   pub number-room : (at room : ℕ) → at + 20 ≤ room → at + length (take k ds) ≤ room
   number-room at room h = omega (arith, c.1, few-digits k x f small)
 
-  pub number_put : {before after : List ℕ} {at end : ℕ} → take k ds ≡ last_digits 10 k x → Appended before at (take k ds) after end → Appended before at (decimal x) after end
+  pub number-long : (before : List ℕ) {after : List ℕ} → after ≡ before ++ take k ds → length after ≤ length before + 20
+  number-long before e =
+      rw (e, length-append before (take k ds)) (omega (arith, c.1, few-digits k x f small))
+
+  pub number-is : take k ds ≡ last_digits 10 k x → take k ds ≡ decimal x
   unfolding decimal
-  number_put e p = rw (e, last_digits-digits_in k 20 x (few-digits k x f small) f) at p
+  number-is e = e ∙ last_digits-digits_in k 20 x (few-digits k x f small) f
 
 -- ---- numbers with a space before each
 pub decimal-short : (n : ℕ) → length (decimal n) ≤ 20
@@ -127,16 +69,6 @@ decimal-short n = short 20 n
         (λ (y : ltb m 10 ≡ true). rw y (omega arith))
         (λ (f : ltb m 10 ≡ false). rw (f, length-append (digits_in k (m / 10)) ((48 + m % 10) ∷ [])) (omega (arith, short k (m / 10))))
         (cases (ltb m 10))
-
--- a word and a number: where they end at most
-pub figure-ends : (word : List ℕ) (x : ℕ) {before after : List ℕ} {at end : ℕ} → Appended before at (word ++ decimal x) after end → end ≤ at + length word + 20
-figure-ends word x p = omega (arith, p.ends, length-append word (decimal x), decimal-short x)
-
--- a text, and behind it the end of the line
-pub line-done : {before text mid after : List ℕ} {k end : ℕ} → Appended before 0 text mid k → Appended mid k (10 ∷ []) after end → k + 1 ≤ length before
-    → Spelt before (text ++ (10 ∷ [])) after end
-line-done {before} {text} p q h =
-    line_of (put_both p q) (simp length-append (omega (arith, p.ends)))
 
 spaced-append : (xs ys : List ℕ) → spaced (xs ++ ys) ≡ spaced xs ++ spaced ys
 unfolding spaced
@@ -153,35 +85,38 @@ unfolding spaced
 spaced-short [] = omega arith
 spaced-short (x ∷ xs) = rw (length-append (decimal x) (spaced xs)) (omega (arith, spaced-short xs, decimal-short x))
 
--- a loop has put i numbers
-pub record Spacing (before : List ℕ) (at : ℕ) (numbers : List ℕ) (i : ℕ) (out : List ℕ) (k : ℕ) : Type 0 where
+-- a loop has pushed i numbers
+pub record Spacing (before numbers : List ℕ) (i : ℕ) (text : List ℕ) : Type 0 where
   pub low : i ≤ length numbers
-  pub so_far : Appended before at (spaced (take i numbers)) out k
-  pub room : k ≤ at + 21 * i
+  pub so_far : text ≡ before ++ spaced (take i numbers)
 
-pub spacing-start : (before : List ℕ) (at : ℕ) (numbers : List ℕ) → Spacing before at numbers 0 before at
+pub spacing-start : (before numbers : List ℕ) → Spacing before numbers 0 before
 unfolding spaced
-spacing-start before at numbers =
-    record { low = omega arith; so_far = put-none before at; room = omega arith }
+spacing-start before numbers = record { low = omega arith; so_far = rw (append-nil before) refl }
 
-pub spacing-next : {before : List ℕ} {at : ℕ} {numbers : List ℕ} {i : ℕ} {out out' : List ℕ} {k k' x : ℕ} → Spacing before at numbers i out k → i < length numbers
-    → x ≡ get_or numbers i 0 → Appended out k ((32 ∷ []) ++ decimal x) out' k' → Spacing before at numbers (i + 1) out' k'
-spacing-next {before} {at} {numbers} {i} {out} {out'} {k} {k'} {x} z h e p =
-    let q : Appended out k (32 ∷ decimal (get_or numbers i 0)) out' k' = rw e at p in
+pub spacing-next : {before numbers text text' : List ℕ} {i x : ℕ} → Spacing before numbers i text → i < length numbers → x ≡ get_or numbers i 0
+    → text' ≡ text ++ (32 ∷ []) ++ decimal x → Spacing before numbers (i + 1) text'
+spacing-next {before} {numbers} {text} {i = i} {x = x} z h e p =
+    let so_far = take i numbers in
     record {
       low = omega arith;
-      so_far = rw (spaced-next numbers i h) (put_both z.so_far q);
-      room = omega (arith, z.room, q.ends, decimal-short (get_or numbers i 0));
+      so_far =
+          rw (p, append_assoc text (32 ∷ []) (decimal x), z.so_far, spaced-next numbers i h, ← e, append_assoc before (spaced so_far) (32 ∷ decimal x)) refl;
     }
 
-pub spacing-room : {before : List ℕ} {at : ℕ} {numbers : List ℕ} {i : ℕ} {out : List ℕ} {k : ℕ} → Spacing before at numbers i out k → i < length numbers
-    → at + 21 * length numbers ≤ length before → k + 1 + 20 ≤ length out
-spacing-room z h room = omega (arith, z.so_far.long, z.room)
+pub spacing-room : {before numbers text : List ℕ} {i : ℕ} (most : ℕ) → Spacing before numbers i text → i < length numbers
+    → length before + 21 * length numbers ≤ most → length text + 1 + 20 ≤ most
+spacing-room {before} {numbers} {i = i} most z h room =
+    let few : length (take i numbers) ≡ i = length-take-le i numbers z.low in
+    rw (z.so_far, length-append before (spaced (take i numbers))) (omega (arith, spaced-short (take i numbers), few))
 
-pub spacing-end : {before : List ℕ} {at : ℕ} {numbers : List ℕ} {i : ℕ} {out : List ℕ} {k : ℕ} → Spacing before at numbers i out k → length numbers ≤ i
-    → Appended before at (spaced numbers) out k
-spacing-end {before} {at} {numbers} {i} z h = rw (take_all i numbers h) at z.so_far
+pub spacing-long : {before numbers text : List ℕ} {i : ℕ} → Spacing before numbers i text → length numbers ≤ i → length text ≤ length before + 21 * length numbers
+spacing-long {before} {numbers} {i = i} z h =
+    rw (z.so_far, take_all i numbers h, length-append before (spaced numbers)) (omega (arith, spaced-short numbers))
 
-pub ruleset loops = (putting-start, putting-next, putting-end, putting-fits, spacing-start, spacing-next, spacing-room, spacing-end)
+pub spacing-end : {before numbers text : List ℕ} {i : ℕ} → Spacing before numbers i text → length numbers ≤ i → text ≡ before ++ spaced numbers
+spacing-end {before} {numbers} {i = i} z h = rw (take_all i numbers h) at z.so_far
 
-pub ruleset laws = (put_both, number-room, number_put)
+pub ruleset loops = (spacing-start, spacing-next, spacing-room, spacing-long, spacing-end)
+
+pub ruleset laws = (number-room, number-long, number-is, length-append)

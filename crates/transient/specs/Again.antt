@@ -1,10 +1,9 @@
 -- A store that has passed refusals 1 and 2, and what a call leaves of it so that it passes them again.
-use Rattle.std.specs.Prelude.{◌≡◌, ℕ, ◌+◌, ◌<◌, ◌≤◌, true, not, ◌&&◌, List, length, ◌==◌, nat_eq, refl}
+use Rattle.std.specs.Prelude.{◌≡◌, ℕ, ◌+◌, ◌<◌, ◌≤◌, true, not, ◌&&◌, List, length, ◌==◌, nat_eq, refl, Ok}
 use Rattle.std.proofs.Common.{ap, ◌∙◌, le-leb, lt-ltb, eqb-true}
 use Rattle.std.proofs.lemmas.Bool.{not-false}
 use Rattle.search.specs.Bools.{and_left, and_right, and_both}
 use Rattle.search.specs.Some.{every-same}
-use Rattle.reply.specs.declared.Check.TheVariants.{Accepted}
 use Rattle.reply.specs.declared.Refusal.TheVariants.{BadSizes, BadClock}
 use Rattle.reply.specs.Refusals.{refuse, not-refused}
 use Rattle.image.specs.Layout.{most_number, slots_of, clock_of, shape_ok, clock_ok}
@@ -22,15 +21,15 @@ pub record Passes (st : Store) : Type 0 where
   pub sizes : sizes_fit st.working st.persistent st.transient ≡ true
   pub clocks : clocks_fit st.working st.persistent st.transient (sizes_of (table_of st)).t ≡ true
 
-pub entry-passes : (st : Store) → entry_check st ≡ Accepted → Passes st
+pub entry-passes : (st : Store) → entry_check st ≡ Ok tt → Passes st
 unfolding entry_check sizes_fit clocks_fit
 entry-passes st a =
     let fit = sizes_fit st.working st.persistent st.transient in
     let clocks = clocks_fit st.working st.persistent st.transient (sizes_of (table_of st)).t in
-    let first = not-refused (not fit) BadSizes (refuse (not clocks) BadClock Accepted) a in
-    record { sizes = not-false fit first.0; clocks = not-false clocks (not-refused (not clocks) BadClock Accepted first.1).0 }
+    let first = not-refused (not fit) BadSizes (refuse (not clocks) BadClock (Ok tt)) a in
+    record { sizes = not-false fit first.0; clocks = not-false clocks (not-refused (not clocks) BadClock (Ok tt) first.1).0 }
 
-pub passes-entry : {st : Store} → Passes st → entry_check st ≡ Accepted
+pub passes-entry : {st : Store} → Passes st → entry_check st ≡ Ok tt
 unfolding entry_check sizes_fit clocks_fit
 passes-entry y = rw (y.sizes, y.clocks)
 
@@ -190,7 +189,7 @@ module _ (wk l tr : List ℕ) {wk' tr' : List ℕ} (k : TableKept (sizes_of (tab
       (ap (λ b. clock_ok (clock_of wk) && (clock_of l == clock_of wk && b))
       (every-same (λ u. open_ok (clock_of wk) (open_epoch tr' u)) (λ u. open_ok (clock_of wk) (open_epoch tr u)) (sizes_of (table wk tr)).t (λ u h. rw (k.notes.opens u h))))
 
-  pub kept_entry : entry_check (store wk l tr) ≡ Accepted → entry_check (store wk' l tr') ≡ Accepted
+  pub kept_entry : entry_check (store wk l tr) ≡ Ok tt → entry_check (store wk' l tr') ≡ Ok tt
   kept_entry a =
       let p = entry-passes (store wk l tr) a in
       passes-entry (record { sizes = sizes-again p.sizes k.working (unchanged l) k.notes; clocks = rw (kept-sizes k) (clocks-again ∙ p.clocks) })

@@ -1,10 +1,8 @@
 -- 01, "Where each call can decline": refusals 1 and 2 of every call but fresh and recover.
-use Rattle.std.specs.Prelude.{ℕ, ◌+◌, Bool, not, ◌&&◌, ◌||◌, List, length, ◌==◌, nat_le, nat_lt}
+use Rattle.std.specs.Prelude.{ℕ, ◌+◌, Bool, not, ◌&&◌, ◌||◌, List, length, ◌==◌, nat_le, nat_lt, Ok}
 use Rattle.search.specs.Some.{every}
-use Rattle.reply.specs.declared.Check.{Check}
-use Rattle.reply.specs.declared.Check.TheVariants.{Accepted}
 use Rattle.reply.specs.declared.Refusal.TheVariants.{BadSizes, BadClock}
-use Rattle.reply.specs.Refusals.{refuse}
+use Rattle.reply.specs.Refusals.{Check, refuse}
 use Rattle.image.specs.Layout.{most_number, slots_of, width_of, clock_of, shape_ok, clock_ok}
 use Rattle.transient.specs.Layout.{threads_ok, note, slots_at, last_at, next_uid_at, next_order_at, place_at, open_epoch}
 use Rattle.transient.specs.Store.{Store, table_of, sizes_of}
@@ -31,4 +29,4 @@ unfoldable pub entry_check : Store → Check
 entry_check st =
     let wk = st.working in let l = st.persistent in let tr = st.transient in
     refuse (not (images_fit wk l && (threads_ok (length tr) (slots_of wk) && notes_fit tr (slots_of wk)))) BadSizes
-    (refuse (not (clock_ok (clock_of wk) && (clock_of l == clock_of wk && opens_ok tr (sizes_of (table_of st)).t (clock_of wk)))) BadClock Accepted)
+    (refuse (not (clock_ok (clock_of wk) && (clock_of l == clock_of wk && opens_ok tr (sizes_of (table_of st)).t (clock_of wk)))) BadClock (Ok tt))

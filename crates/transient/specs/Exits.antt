@@ -1,12 +1,11 @@
 -- The ways out of this crate's functions.
-use Rattle.std.specs.Prelude.{◌≡◌, ℕ, ◌+◌, ◌-◌, ◌*◌, ◌%◌, ◌^◌, ◌<◌, ◌≤◌, Bool, true, false, not, ltb, leb, List, length, replicate, ◌==◌, ◌≢◌, nat_le, nat_lt, slice_set}
+use Rattle.std.specs.Prelude.{◌≡◌, ℕ, ◌+◌, ◌-◌, ◌*◌, ◌%◌, ◌^◌, ◌<◌, ◌≤◌, Bool, true, false, ltb, leb, List, length, replicate, ◌==◌, ◌≢◌, nat_le, nat_lt, slice_set, Ok, Err}
 use Rattle.std.proofs.Math.Path.{refl}
 use Rattle.std.proofs.Common.{sym, ◌∙◌, ⊎_elim}
 use borrow.Author.Tests.{lt-ltb, le-ltb, le-leb, lt-leb, eq-eqb, ne_eqb, ltb-true, ltb-false, leb-true, eqb-true}
 use native.Mathlib.Omega.{arith}
 use Rattle.search.specs.Bools.{cases, refuted, same_test, and_left, and_right, tests}
 use Rattle.search.specs.Some.{every, Held, held_next, loops as everies}
-use Rattle.reply.specs.declared.Check.TheVariants.{Accepted, Refused}
 use Rattle.reply.specs.declared.Refusal.TheVariants.{BadSizes, BadClock}
 use Rattle.image.specs.Layout.{most_slots, most_number, slots_of, width_of, clock_of, shape_ok, clock_ok}
 use Rattle.image.specs.Requires.{Sized}
@@ -236,7 +235,7 @@ module _ (wk l tr : List ℕ) (t : ℕ) {c : ℕ} {k : Bool} (at : c ≡ clock_o
   clocks-opens e d q = rw (← at, ← ck, e, eq-eqb (clock_of l) c d) q
 
 module _ (wk l tr : List ℕ) {s : Bool} (sf : s ≡ sizes_fit wk l tr) where
-  pub entry-sizes : s ≡ false → Refused BadSizes ≡ entry_check (store wk l tr)
+  pub entry-sizes : s ≡ false → Err BadSizes ≡ entry_check (store wk l tr)
   unfolding entry_check sizes_fit
   entry-sizes e = rw (← sf, e)
 
@@ -257,11 +256,11 @@ module _ (wk l tr : List ℕ) {s : Bool} (sf : s ≡ sizes_fit wk l tr) where
             rw (ts, at) (record { working = omega arith; persistent = omega arith; threads = record { room = omega arith; few = omega arith } })
 
         module _ {k : Bool} (ck : k ≡ clocks_fit wk l tr t) where
-          pub entry-clock : k ≡ false → Refused BadClock ≡ entry_check (store wk l tr)
+          pub entry-clock : k ≡ false → Err BadClock ≡ entry_check (store wk l tr)
           unfolding entry_check sizes_fit clocks_fit
           entry-clock e = let q : clocks_fit wk l tr (sizes_of (table wk tr)).t ≡ false = rw (sizes-t wk tr, ← at, ← ts) (sym ck ∙ e) in rw (← sf, st, q)
 
-          pub entry-fine : k ≡ true → Accepted ≡ entry_check (store wk l tr)
+          pub entry-fine : k ≡ true → Ok tt ≡ entry_check (store wk l tr)
           unfolding entry_check sizes_fit clocks_fit
           entry-fine e = let q : clocks_fit wk l tr (sizes_of (table wk tr)).t ≡ true = rw (sizes-t wk tr, ← at, ← ts) (sym ck ∙ e) in rw (← sf, st, q)
 

@@ -1,6 +1,6 @@
 -- Get/set laws of the notes, by name: what each writer leaves in its own note, and that the other notes stay.
-use Rattle.std.specs.Prelude.{◌≡◌, ℕ, ◌+◌, ◌-◌, ◌/◌, ◌%◌, ◌<◌, ◌≤◌, true, false, ◌≢◌, ◌⊎◌, List, length, set, replicate, nat_le, slice_index, slice_index_or, slice_set, refl}
-use Rattle.std.proofs.Common.{◌∙◌, ap, ⊎_elim, leb-true}
+use Rattle.std.specs.Prelude.{◌≡◌, ℕ, ◌+◌, ◌-◌, ◌/◌, ◌%◌, ◌<◌, ◌≤◌, true, false, ◌≢◌, ◌⊎◌, List, length, replicate, nat_le, slice_index, slice_index_or, slice_set, refl}
+use Rattle.std.proofs.Common.{◌∙◌, ⊎_elim, leb-true}
 use Rattle.std.proofs.Math.Logic.{inl, inr}
 use Rattle.std.proofs.Math.ListN.{length-set, get_or-replicate, get_or-eq_default}
 use Rattle.std.proofs.lemmas.List.{length-replicate}

@@ -2,7 +2,7 @@
 -- T threads (1 to 16) its open epoch or none; which payloads are retired, and in which epoch; a waiting list of slots for each
 -- recent epoch; the last slot taken; the next uid; the place an advance has reached." 02, No. 3: the next order number. No. 6: "keep a
 -- hashed index in the notes". They also say their N.
-use Rattle.std.specs.Prelude.{ℕ, ◌+◌, ◌-◌, ◌*◌, ◌/◌, ◌%◌, ◌^◌, Bool, cond, not, ◌&&◌, List, set, replicate, ◌==◌, nat_le, slice_index, slice_set}
+use Rattle.std.specs.Prelude.{ℕ, ◌+◌, ◌-◌, ◌*◌, ◌/◌, ◌%◌, ◌^◌, Bool, cond, ◌&&◌, List, replicate, ◌==◌, nat_le, slice_index, slice_set}
 use Rattle.image.specs.Line.{stored}
 use Rattle.transient.specs.declared.sizes.Sizes.{Sizes}
 

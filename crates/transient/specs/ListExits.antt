@@ -1,13 +1,12 @@
 -- The ways out of the functions on the waiting lists.
-use Rattle.std.specs.Prelude.{◌≡◌, ℕ, ◌+◌, ◌-◌, ◌*◌, ◌/◌, ◌%◌, ◌^◌, ◌<◌, List, replicate, ◌≢◌, slice_index, slice_index_or, slice_set}
+use Rattle.std.specs.Prelude.{◌≡◌, ℕ, ◌+◌, ◌-◌, ◌*◌, ◌/◌, ◌%◌, ◌^◌, ◌<◌, List, replicate, ◌≢◌, slice_index, slice_index_or, slice_set, Some, min}
 use Rattle.std.proofs.Math.Path.{refl}
 use borrow.Author.Tests.{ne_eqb}
 use Rattle.std.proofs.Common.{Fits, mod-eq_of_lt, arith}
 use Rattle.std.specs.Int.{w32}
 use Rattle.std.proofs.Math.Pow.{pow-lt}
-use Rattle.search.specs.declared.Found.TheVariants.{At}
 use Rattle.search.specs.From.{first_from, From, from_start, from_next, from-hit, from_end, from-pass}
-use Rattle.search.specs.Rounds.{lesser, Onward, onward, onward-less}
+use Rattle.search.specs.Rounds.{Onward, onward, onward-less}
 use Rattle.image.specs.Line.{stored}
 use Rattle.transient.specs.declared.sizes.Sizes.{Sizes}
 use Rattle.transient.specs.Layout.{lists_at, waiting_at, has_bit, is_waiting, with_bit, set_waiting, emptied}
@@ -48,13 +47,13 @@ list-emptied tr e y h = rw (← y.same) h
 
 -- ---- the walk along a list
 pub walk_start : (e : ℕ) {tr : List ℕ} {z : Sizes} {p : ℕ} → NoteOf tr z p → From (is_waiting tr e) z.n p p
-walk_start e {tr} {z} {p} y = from_start (is_waiting tr e) z.n p y.within
+walk_start e {tr} {z} {p} y = from_start (is_waiting tr e) z.n p (omega (arith, y.within))
 
 pub walk-slot : {tr : List ℕ} {z : Sizes} {p s : ℕ} → NoteOf tr z p → s < z.n → NoteOf tr z s
 walk-slot y h = note-of y.notes h
 
 module _ (e : ℕ) (tr : List ℕ) {n p s b : ℕ} (f : From (is_waiting tr e) n p s) (h : s < n) (y : Worded e s b) where
-  module _ {to : ℕ} (t : to ≡ lesser (s - s % 32 + 32) n) where
+  module _ {to : ℕ} (t : to ≡ min (s - s % 32 + 32) n) where
     -- to where the slots of its word end
     on : Onward (s - s % 32 + 32) n s to
     on = onward (omega arith) h t
@@ -72,7 +71,7 @@ module _ (e : ℕ) (tr : List ℕ) {n p s b : ℕ} (f : From (is_waiting tr e) n
         rw w (bit_past (s % 32) (j % 32) (slice_index tr b) (omega (arith, on.few)) q))
 
   -- it waits, or goes on
-  pub walk-hit : slice_index_or tr b 0 / 2 ^ (s % 32) % 2 ≡ 1 → At s ≡ first_from (is_waiting tr e) n p
+  pub walk-hit : slice_index_or tr b 0 / 2 ^ (s % 32) % 2 ≡ 1 → Some s ≡ first_from (is_waiting tr e) n p
   unfolding is_waiting has_bit
   walk-hit q = from-hit f refl h (rw (← y.same, q))
 

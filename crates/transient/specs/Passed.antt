@@ -1,13 +1,11 @@
 -- What refusals 1 and 2 leave, and how a call goes on past them.
-use Rattle.std.specs.Prelude.{◌≡◌, ℕ, ◌+◌, ◌<◌, ◌≤◌, Bool, true, not, ◌&&◌, List, length, ◌==◌, nat_le, nat_lt, refl}
+use Rattle.std.specs.Prelude.{◌≡◌, ℕ, ◌+◌, ◌<◌, ◌≤◌, Bool, true, not, ◌&&◌, List, length, ◌==◌, nat_le, nat_lt, refl, Ok, Err}
 use Rattle.std.proofs.Common.{sym, ap, ◌∙◌, ltb-true, leb-true, eqb-true, arith}
 use Rattle.std.proofs.lemmas.Bool.{not-false}
 use Rattle.search.specs.Bools.{and_left, and_right}
-use Rattle.reply.specs.declared.Check.{Check}
-use Rattle.reply.specs.declared.Check.TheVariants.{Accepted, Refused}
 use Rattle.reply.specs.declared.Refusal.{Refusal}
 use Rattle.reply.specs.declared.Refusal.TheVariants.{BadSizes, BadClock}
-use Rattle.reply.specs.Refusals.{refuse, by_check, not-refused}
+use Rattle.reply.specs.Refusals.{Check, refuse, by_check, not-refused}
 use Rattle.image.specs.Layout.{most_number, slots_of, width_of, clock_of, shape_ok, clock_ok}
 use Rattle.image.specs.Requires.{Sized}
 use Rattle.image.specs.Laws.{shaped}
@@ -83,12 +81,12 @@ clocks-range : (wk l tr : List ℕ) (t : ℕ) → clocks_fit wk l tr t ≡ true 
 unfolding clocks_fit
 clocks-range wk l tr t e = clock-range (clock_of wk) (and_left (clock_ok (clock_of wk)) _ e)
 
-pub entry-with : (wk l tr : List ℕ) → entry_check (store wk l tr) ≡ Accepted → EnteredWith wk l tr (sizes_of (table wk tr))
+pub entry-with : (wk l tr : List ℕ) → entry_check (store wk l tr) ≡ Ok tt → EnteredWith wk l tr (sizes_of (table wk tr))
 unfolding entry_check sizes_fit clocks_fit
 entry-with wk l tr a =
     let t = (sizes_of (table wk tr)).t in
-    let first = not-refused (not (sizes_fit wk l tr)) BadSizes (refuse (not (clocks_fit wk l tr t)) BadClock Accepted) a in
-    let second = not-refused (not (clocks_fit wk l tr t)) BadClock Accepted first.1 in
+    let first = not-refused (not (sizes_fit wk l tr)) BadSizes (refuse (not (clocks_fit wk l tr t)) BadClock (Ok tt)) a in
+    let second = not-refused (not (clocks_fit wk l tr t)) BadClock (Ok tt) first.1 in
     let y = sizing wk l tr refl (not-false (sizes_fit wk l tr) first.0) in
     let range = clocks-range wk l tr t (not-false (clocks_fit wk l tr t) second.0) in
     record {
@@ -127,28 +125,28 @@ in_store st ch = outcome ch.reply ch.table.working st.persistent ch.table.transi
 pub on-persistent : (st : Store) (call : Sizes → Table → Changed) → (on_store st call).store.persistent ≡ st.persistent
 on-persistent st call = go (entry_check st)
   where
-    go : (k : Check) → (after_check k Refused st (in_store st (call (sizes_of (table_of st)) (table_of st)))).store.persistent ≡ st.persistent
-    go Accepted = refl
-    go (Refused r) = refl
+    go : (k : Check) → (after_check k Err st (in_store st (call (sizes_of (table_of st)) (table_of st)))).store.persistent ≡ st.persistent
+    go (Ok _) = refl
+    go (Err r) = refl
 
 module _ (wk l tr : List ℕ) {k : Check} (c : k ≡ entry_check (store wk l tr)) where
-  pub entry-entered : k ≡ Accepted → Entered wk tr (sizes_of (table wk tr))
+  pub entry-entered : k ≡ Ok tt → Entered wk tr (sizes_of (table wk tr))
   entry-entered a = (entry-with wk l tr (sym c ∙ a)).entered
 
-  pub entry-both : k ≡ Accepted → EnteredWith wk l tr (sizes_of (table wk tr))
+  pub entry-both : k ≡ Ok tt → EnteredWith wk l tr (sizes_of (table wk tr))
   entry-both a = entry-with wk l tr (sym c ∙ a)
 
-  pub on-declined : (call : Sizes → Table → Changed) {r : Refusal} → k ≡ Refused r → outcome (Refused r) wk l tr ≡ on_store (store wk l tr) call
+  pub on-declined : (call : Sizes → Table → Changed) {r : Refusal} → k ≡ Err r → outcome (Err r) wk l tr ≡ on_store (store wk l tr) call
   on-declined call a = rw (← c, a)
 
-  pub on-passed : (call : Sizes → Table → Changed) {q : Check} {wk' tr' : List ℕ} → k ≡ Accepted
+  pub on-passed : (call : Sizes → Table → Changed) {q : Check} {wk' tr' : List ℕ} → k ≡ Ok tt
       → changed q wk' tr' ≡ call (sizes_of (table wk tr)) (table wk tr) → outcome q wk' l tr' ≡ on_store (store wk l tr) call
   on-passed call a h = rw (← c, a) (ap (in_store (store wk l tr)) h)
 
 -- two checks in a row: the first that refuses
 pub two-checks : {A : Type 0} (j k : Check) (decline : Refusal → A) (st : Store) (next : Outcome A)
-    → after_check (by_check j Refused k) decline st next ≡ after_check j decline st (after_check k decline st next)
-two-checks Accepted k decline st next = refl
-two-checks (Refused r) k decline st next = refl
+    → after_check (by_check j Err k) decline st next ≡ after_check j decline st (after_check k decline st next)
+two-checks (Ok _) k decline st next = refl
+two-checks (Err r) k decline st next = refl
 
 pub ruleset passing = (entered-sizable, sized-entered, sized-with, entry-entered, entry-both)

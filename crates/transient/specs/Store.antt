@@ -1,8 +1,7 @@
 -- A store: the two images and the notes; what a call works on, answers and leaves.
 use Rattle.std.specs.Prelude.{ℕ, List, length}
-use Rattle.reply.specs.declared.Check.{Check}
 use Rattle.reply.specs.declared.Refusal.{Refusal}
-use Rattle.reply.specs.Refusals.{by_check}
+use Rattle.reply.specs.Refusals.{Check, by_check}
 use Rattle.image.specs.Layout.{slots_of, width_of}
 use Rattle.transient.specs.declared.sizes.Sizes.{Sizes}
 use Rattle.transient.specs.Layout.{threads_of}

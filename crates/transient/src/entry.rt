@@ -1,11 +1,13 @@
 // What every call but format and recover judges first: refusals 1 and 2.
+#![tactic(auto, using(crate::specs::Exits::laws, crate::specs::Exits::entries))]
+
 ghost use Rattle.std.specs.Prelude.{◌≡◌, ◌≤◌, length};
 ghost use Rattle.transient.specs.Store.{store};
 ghost use Rattle.transient.specs.Entry.{images_fit, next_ok, notes_fit, opens_ok, entry_check};
 ghost use Rattle.transient.specs.Layout.{head_words};
 ghost use Rattle.transient.specs.Requires.{Paired, sizes_alike, sizes_fit, open_ok, clocks_fit, Threads, Fitting};
 
-use reply::{Check, Refusal};
+use reply::Refusal;
 
 // Do two images say the same sizes?
 fn alike(working: &[u32], persistent: &[u32]) -> bool
@@ -66,7 +68,7 @@ fn sizes_fit(working: &[u32], persistent: &[u32], transient: &[u32]) -> bool
     ensures { result ≡ sizes_fit working.now persistent.now transient.now }
 {
     if images_fit(working, persistent) {
-        let n = image::shape::wide(working[0]);
+        let n = working[0] as usize;
         if crate::notes::threads_ok(transient.len(), n) {
             notes_fit(transient, n)
         } else {
@@ -86,23 +88,20 @@ fn open_ok(c: u32, e: u32) -> bool
     if e == c {
         return true;
     }
-    image::shape::wide(e) + 1 == image::shape::wide(c)
+    e as usize + 1 == c as usize
 }
 
 fn opens_ok(transient: &[u32], t: usize, c: u32) -> bool
     requires { Threads transient.now t }
     ensures { result ≡ opens_ok transient.now t c }
 {
-    let mut thread = 0;
-    while thread < t {
+    for thread in 0..t {
         let e = transient[crate::notes::HEAD + thread];
+        // Most threads have no operation open.
         if e == 0 {
-            thread += 1;
             continue;
         }
-        if open_ok(c, e) {
-            thread += 1;
-        } else {
+        if !open_ok(c, e) {
             return false;
         }
     }
@@ -124,7 +123,7 @@ fn clocks_fit(working: &[u32], persistent: &[u32], transient: &[u32], t: usize) 
     }
 }
 
-pub fn check(working: &[u32], persistent: &[u32], transient: &[u32]) -> Check
+pub fn check(working: &[u32], persistent: &[u32], transient: &[u32]) -> Result<(), Refusal>
     ensures { result ≡ entry_check (store working.now persistent.now transient.now) }
 {
     // Lent anew, the slices come in registers; one that is only handed on comes through memory.
@@ -132,13 +131,13 @@ pub fn check(working: &[u32], persistent: &[u32], transient: &[u32]) -> Check
     let persistent = &persistent[..];
     let transient = &transient[..];
     if sizes_fit(working, persistent, transient) {
-        let t = crate::notes::threads(transient.len(), image::shape::wide(working[0]));
+        let t = crate::notes::threads(transient.len(), working[0] as usize);
         if clocks_fit(working, persistent, transient, t) {
-            Check::Accepted
+            Ok(())
         } else {
-            Check::Refused(Refusal::BadClock)
+            Err(Refusal::BadClock)
         }
     } else {
-        Check::Refused(Refusal::BadSizes)
+        Err(Refusal::BadSizes)
     }
 }

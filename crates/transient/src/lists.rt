@@ -1,12 +1,12 @@
 // The waiting lists: a bit for each slot, in 32 words of 32 bits a list.
-ghost use Rattle.std.specs.Prelude.{◌≡◌, ◌+◌, ◌-◌, ◌%◌, ◌<◌};
+#![tactic(auto, using(crate::specs::ListExits::lists))]
+
+ghost use Rattle.std.specs.Prelude.{◌≡◌, ◌+◌, ◌-◌, ◌%◌, ◌<◌, min};
 ghost use Rattle.search.specs.From.{first_from};
-ghost use Rattle.search.specs.Rounds.{lesser};
 ghost use Rattle.transient.specs.Layout.{is_waiting, with_bit, set_waiting, emptied};
 ghost use Rattle.transient.specs.Requires.{InIndex, Notes, NoteOf, Listed, Worded};
 
 use crate::sizes::Sizes;
-use search::Found;
 
 // The bits of a word, and the words of a list.
 const BITS: usize = 32;
@@ -17,7 +17,7 @@ const WORDS: usize = 32;
 fn list_at(e: u32) -> usize
     ensures { Listed e result }
 {
-    crate::notes::LISTS + WORDS * image::shape::wide(e % 2)
+    crate::notes::LISTS + WORDS * (e % 2) as usize
 }
 
 // Where e's list has the word of slot s.
@@ -31,9 +31,9 @@ fn word_at(z: Sizes, e: u32, s: usize) -> usize
 // Where the slots of that word end; the last word may have fewer.
 fn word_to(z: Sizes, s: usize) -> usize
     requires { InIndex z s }
-    ensures { result ≡ lesser (s - s % 32 + 32) z.n }
+    ensures { result ≡ min (s - s % 32 + 32) z.n }
 {
-    search::lesser(s - s % BITS + BITS, z.n)
+    (s - s % BITS + BITS).min(z.n)
 }
 
 fn with_bit(x: u32, j: u32) -> u32
@@ -56,7 +56,8 @@ pub fn set_waiting(transient: &mut [u32], z: Sizes, e: u32, s: usize)
 }
 
 // The first slot from p on that waits in e's list. Where no bit is left in a word, the rest of it is passed over.
-pub fn waiting_from(transient: &[u32], z: Sizes, e: u32, p: usize) -> Found
+#[tactic(auto, using(crate::specs::ListExits::walks))]
+pub fn waiting_from(transient: &[u32], z: Sizes, e: u32, p: usize) -> Option<usize>
     requires { NoteOf transient.now z p }
     ensures { result ≡ first_from (is_waiting transient.now e) z.n p }
 {
@@ -67,12 +68,12 @@ pub fn waiting_from(transient: &[u32], z: Sizes, e: u32, p: usize) -> Found
             s = word_to(z, s);
         } else {
             if x % 2 == 1 {
-                return Found::At(s);
+                return Some(s);
             }
             s += 1;
         }
     }
-    Found::Nothing
+    None
 }
 
 // Nothing waits in e's list.

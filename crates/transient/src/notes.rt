@@ -1,4 +1,6 @@
 // The notes' readers and writers.
+#![tactic(auto, using(crate::specs::Exits::laws))]
+
 ghost use Rattle.std.specs.Prelude.{◌≡◌, ◌+◌, ◌<◌, ◌≤◌, length};
 ghost use Rattle.image.specs.Layout.{most_slots};
 ghost use Rattle.transient.specs.Layout.{head_words, transient_words, threads_of, threads_ok, blank, note, slots_at, last_at, next_uid_at, next_order_at, phase_at, place_at, open_epoch, retired_in, set_note, set_open, set_retired, set_place, bucket_at, link_at};
@@ -66,14 +68,14 @@ pub fn noted_slots(transient: &[u32]) -> usize
     requires { head_words ≤ length transient.now }
     ensures { result ≡ note slots_at transient.now }
 {
-    image::shape::wide(transient[SLOTS])
+    transient[SLOTS] as usize
 }
 
 pub fn last_taken(transient: &[u32]) -> usize
     requires { head_words ≤ length transient.now }
     ensures { result ≡ note last_at transient.now }
 {
-    image::shape::wide(transient[LAST])
+    transient[LAST] as usize
 }
 
 pub fn next_uid(transient: &[u32]) -> u32
@@ -101,7 +103,7 @@ pub fn place_slot(transient: &[u32]) -> usize
     requires { head_words ≤ length transient.now }
     ensures { result ≡ note place_at transient.now }
 {
-    image::shape::wide(transient[PLACE])
+    transient[PLACE] as usize
 }
 
 pub fn open_epoch(transient: &[u32], z: Sizes, thread: usize) -> u32

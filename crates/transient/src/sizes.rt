@@ -11,12 +11,13 @@ pub struct Sizes {
     pub t: usize,
 }
 
+#[tactic(auto, using(crate::specs::Exits::laws))]
 pub fn read_sizes(working: &[u32], transient: &[u32]) -> Sizes
     requires { Sizable working.now transient.now }
     ensures { result ≡ sizes_of (table working.now transient.now) }
 {
-    let n = image::shape::wide(working[0]);
-    let w = image::shape::wide(working[1]);
+    let n = working[0] as usize;
+    let w = working[1] as usize;
     let t = crate::notes::threads(transient.len(), n);
     Sizes { n, w, t }
 }

@@ -1,10 +1,8 @@
 -- 01: "The memory may copy any mark or contents line from working to lasting at any moment outside a call ..; a call stands for this."
 -- 02, No. 4: "the memory may copy single words on its own; the call for this now takes the word's position in the image, from 0"
-use Rattle.std.specs.Prelude.{ℕ, ◌||◌, length, get_or, set, leb, ltb}
-use Rattle.reply.specs.declared.Check.{Check}
-use Rattle.reply.specs.declared.Check.TheVariants.{Accepted, Refused}
+use Rattle.std.specs.Prelude.{ℕ, ◌||◌, length, get_or, set, leb, ltb, Ok, Err}
 use Rattle.reply.specs.declared.Refusal.TheVariants.{NoWord}
-use Rattle.reply.specs.Refusals.{refuse, by_check}
+use Rattle.reply.specs.Refusals.{Check, refuse, by_check}
 use Rattle.transient.specs.Store.{Store, Outcome, outcome, after_check}
 use Rattle.transient.specs.Entry.{entry_check}
 
@@ -12,5 +10,5 @@ use Rattle.transient.specs.Entry.{entry_check}
 unfoldable pub write_back : Store → ℕ → Outcome Check
 write_back st i =
     let wk = st.working in
-    after_check (by_check (entry_check st) Refused (refuse (ltb i 3 || leb (length wk) i) NoWord Accepted)) Refused st
-    (outcome Accepted wk (set st.persistent i (get_or wk i 0)) st.transient)
+    after_check (by_check (entry_check st) Err (refuse (ltb i 3 || leb (length wk) i) NoWord (Ok tt))) Err st
+    (outcome (Ok tt) wk (set st.persistent i (get_or wk i 0)) st.transient)

@@ -6,34 +6,39 @@ ghost use Rattle.transient.specs.Store.{store, outcome};
 ghost use Rattle.write_back.specs.WriteBack.{write_back};
 ghost use Rattle.write_back.specs.Stages.{write_word};
 
-use reply::{Check, Refusal};
+use reply::Refusal;
 
 // The first three words are the sizes and the clock.
-fn write_word(working: &[u32], persistent: &mut [u32], transient: &[u32], position: usize) -> Check
+#[tactic(auto, using(crate::specs::Exits::writes))]
+fn write_word(
+    working: &[u32],
+    persistent: &mut [u32],
+    transient: &[u32],
+    position: usize,
+) -> Result<(), Refusal>
     requires { length persistent.old ≡ length working.now }
     ensures { outcome result working.now persistent.new transient.now ≡ write_word (store working.now persistent.old transient.now) position }
 {
     if position < 3 {
-        return Check::Refused(Refusal::NoWord);
+        return Err(Refusal::NoWord);
     }
     if working.len() <= position {
-        return Check::Refused(Refusal::NoWord);
+        return Err(Refusal::NoWord);
     }
     persistent[position] = working[position];
-    Check::Accepted
+    Ok(())
 }
 
 // Copies the word at a position of the image, from 0.
+#[tactic(auto, using(crate::specs::Exits::writes))]
 pub fn write_back(
     working: &[u32],
     persistent: &mut [u32],
     transient: &[u32],
     position: usize,
-) -> Check
+) -> Result<(), Refusal>
     ensures { outcome result working.now persistent.new transient.now ≡ write_back (store working.now persistent.old transient.now) position }
 {
-    match transient::entry::check(working, persistent, transient) {
-        Check::Refused(r) => Check::Refused(r),
-        Check::Accepted => write_word(working, persistent, transient, position),
-    }
+    transient::entry::check(working, persistent, transient)?;
+    write_word(working, persistent, transient, position)
 }

@@ -3,24 +3,9 @@ use Rattle.classes.specs.Exits.{laws}
 use Rattle.classes.proofs.count_class.Goals as goal
 use Rattle.classes.proofs.count_class.Goals.{then-in_class, else-in_class}
 
-pub loop-s-init : goal.loop-s-init
-loop-s-init c = search (rules, laws)
-
-pub in_class-requires : goal.in_class-requires
-in_class-requires c = search (rules, laws)
-
-pub overflow_add-k : goal.overflow_add-k
-overflow_add-k c = search (rules, laws)
-
-pub overflow_add-s : goal.overflow_add-s
-overflow_add-s c = search (rules, laws)
-
-pub loop-s-smaller : goal.loop-s-smaller
-loop-s-smaller c = search (rules, laws)
-
 pub loop-s-preserved : goal.loop-s-preserved
 loop-s-preserved c =
     elim c.if-in_class.branch [ then-in_class w ↦ search (rules, laws) | else-in_class w ↦ search (rules, laws) ]
 
-pub returns : goal.returns
-returns c = search (rules, laws)
+pub loop-s-init : goal.loop-s-init
+loop-s-init c = search (rules, laws)

@@ -6,6 +6,3 @@ use Rattle.classes.proofs.count_class.Given as goal
 
 abbrev pub invariant-loop-s : goal.invariant-loop-s
 invariant-loop-s l = Counted (in_class l.class l.img l.n) l.n l.s l.k
-
-abbrev pub decreases-loop-s : goal.decreases-loop-s
-decreases-loop-s l = l.n - l.s

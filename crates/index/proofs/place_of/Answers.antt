@@ -3,11 +3,5 @@ use borrow.Author.Rules.{rules}
 use Rattle.index.specs.Exits.{joins}
 use Rattle.index.proofs.place_of.Goals as goal
 
-pub bucket-requires : goal.bucket-requires
-bucket-requires c = search (rules, joins)
-
 pub place-requires : goal.place-requires
 place-requires c = search (rules, joins)
-
-pub returns : goal.returns
-returns c = search (rules, joins)

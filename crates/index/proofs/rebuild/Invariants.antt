@@ -4,6 +4,3 @@ use Rattle.index.proofs.rebuild.Given as goal
 
 abbrev pub invariant-loop-s : goal.invariant-loop-s
 invariant-loop-s l = Rebuilding l.z l.working l.initial.transient l.transient l.s
-
-abbrev pub decreases-loop-s : goal.decreases-loop-s
-decreases-loop-s l = l.s

@@ -1,47 +1,16 @@
+use Rattle.std.proofs.lemmas.Result.{err_from_is_err_and}
+use Rattle.reply.specs.Refusals.{ok-some}
 -- `set_open`: each way out is a law.
 use borrow.Author.Rules.{rules}
 use Rattle.job_set.specs.Exits.{laws}
 use Rattle.jobs.specs.Requires.{looked-held}
 use Rattle.job_set.proofs.set_open.Goals as goal
 
-pub look_up-requires : goal.look_up-requires
-look_up-requires c = search (rules, laws)
-
-pub enum_told-1 : goal.enum_told-1
-enum_told-1 c = search (rules, laws)
-
-pub enum_known-s : goal.enum_known-s
-enum_known-s c = search (rules, laws)
+pub returns-in_err-look_up : goal.returns-in_err-look_up
+returns-in_err-look_up c = let p = err_from_is_err_and c.from_residual.result c.from_residual.ensures.1 in let w0 = c.in_err-look_up.was in rw (p.1, p.2) (search (rules, laws))
 
 pub set_live-requires : goal.set_live-requires
-set_live-requires c = looked-held _ _ c.look_up.ensures c.in-Live.is (search (rules, laws))
+set_live-requires c = let w0 = c.in_ok-look_up.was in let w1 = ok-some _ _ c.ok_or.ensures.value c.in_ok-s.was in looked-held _ _ c.look_up.ensures (rw w1 at w0) (search (rules, laws))
 
-pub enum_told-in-Absent : goal.enum_told-in-Absent
-enum_told-in-Absent c = search (rules, laws)
-
-pub shape_of-working-in-Later : goal.shape_of-working-in-Later
-shape_of-working-in-Later c = search (rules, laws)
-
-pub shape_of-transient-in-Later : goal.shape_of-transient-in-Later
-shape_of-transient-in-Later c = search (rules, laws)
-
-pub returns-in-Later : goal.returns-in-Later
-returns-in-Later c = search (rules, laws)
-
-pub shape_of-working-in-Live : goal.shape_of-working-in-Live
-shape_of-working-in-Live c = search (rules, laws)
-
-pub shape_of-transient-in-Live : goal.shape_of-transient-in-Live
-shape_of-transient-in-Live c = search (rules, laws)
-
-pub returns-in-Live : goal.returns-in-Live
-returns-in-Live c = search (rules, laws)
-
-pub shape_of-working-in-Absent : goal.shape_of-working-in-Absent
-shape_of-working-in-Absent c = search (rules, laws)
-
-pub shape_of-transient-in-Absent : goal.shape_of-transient-in-Absent
-shape_of-transient-in-Absent c = search (rules, laws)
-
-pub returns-in-Absent : goal.returns-in-Absent
-returns-in-Absent c = search (rules, laws)
+pub returns : goal.returns
+returns c = let w0 = c.in_ok-look_up.was in let w1 = ok-some _ _ c.ok_or.ensures.value c.in_ok-s.was in let v1 = rw w1 at w0 in search (rules, laws)

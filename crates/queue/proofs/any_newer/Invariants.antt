@@ -6,6 +6,3 @@ use Rattle.queue.proofs.any_newer.Given as goal
 
 abbrev pub invariant-loop-s : goal.invariant-loop-s
 invariant-loop-s l = Sought (entry_newer_at l.working l.e) l.z.n l.s
-
-abbrev pub decreases-loop-s : goal.decreases-loop-s
-decreases-loop-s l = l.z.n - l.s

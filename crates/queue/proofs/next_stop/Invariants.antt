@@ -1,11 +1,8 @@
--- `next_stop`: the first that stops it (`Looking`).
-use Prim.Native.Nat.{◌-◌}
+-- `next_stop`: the first that stops it (`From`).
+use Rattle.search.specs.From.{From}
 use Rattle.transient.specs.Store.{table}
-use Rattle.queue.specs.Exits.{Looking}
+use Rattle.queue.specs.Requires.{stops_at}
 use Rattle.queue.proofs.next_stop.Given as goal
 
 abbrev pub invariant-loop-s : goal.invariant-loop-s
-invariant-loop-s l = Looking l.z (table l.working l.transient) l.e l.best l.from l.s
-
-abbrev pub decreases-loop-s : goal.decreases-loop-s
-decreases-loop-s l = l.z.n - l.s
+invariant-loop-s l = From (stops_at l.z (table l.working l.transient) l.e l.best) l.z.n l.from l.s

@@ -1,34 +1,11 @@
+use Rattle.std.proofs.lemmas.Result.{err_from_is_err_and}
 -- `append_given`: each way out is a law.
 use borrow.Author.Rules.{rules}
 use Rattle.queue_append.specs.Exits.{laws}
 use Rattle.queue_append.proofs.append_given.Goals as goal
 
-pub next_order-order-requires : goal.next_order-order-requires
-next_order-order-requires c = search (rules, laws)
+pub returns-in_err-append_entered : goal.returns-in_err-append_entered
+returns-in_err-append_entered c = let p = err_from_is_err_and c.from_residual.result c.from_residual.ensures.1 in let w0 = c.in_err-append_entered.was in rw (p.1, p.2) (search (rules, laws))
 
-pub append_entered-requires : goal.append_entered-requires
-append_entered-requires c = search (rules, laws)
-
-pub enum_told-1 : goal.enum_told-1
-enum_told-1 c = search (rules, laws)
-
-pub enum_known-r : goal.enum_known-r
-enum_known-r c = search (rules, laws)
-
-pub shape_of-working-in-Accepted : goal.shape_of-working-in-Accepted
-shape_of-working-in-Accepted c = search (rules, laws)
-
-pub shape_of-transient-in-Accepted : goal.shape_of-transient-in-Accepted
-shape_of-transient-in-Accepted c = search (rules, laws)
-
-pub returns-in-Accepted : goal.returns-in-Accepted
-returns-in-Accepted c = search (rules, laws)
-
-pub shape_of-working-in-Refused : goal.shape_of-working-in-Refused
-shape_of-working-in-Refused c = search (rules, laws)
-
-pub shape_of-transient-in-Refused : goal.shape_of-transient-in-Refused
-shape_of-transient-in-Refused c = search (rules, laws)
-
-pub returns-in-Refused : goal.returns-in-Refused
-returns-in-Refused c = search (rules, laws)
+pub returns : goal.returns
+returns c = let w0 = c.in_ok-append_entered.was in search (rules, laws)

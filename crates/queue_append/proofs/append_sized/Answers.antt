@@ -1,34 +1,14 @@
+use Rattle.std.proofs.lemmas.Result.{err_from_is_err_and}
 -- `append_sized`: each way out is a law.
 use borrow.Author.Rules.{rules}
 use Rattle.queue_append.specs.Exits.{laws}
 use Rattle.queue_append.proofs.append_sized.Goals as goal
 
-pub bad_value-bad-requires : goal.bad_value-bad-requires
-bad_value-bad-requires c = search (rules, laws)
-
-pub way_in-requires : goal.way_in-requires
-way_in-requires c = search (rules, laws)
-
-pub enum_known-r : goal.enum_known-r
-enum_known-r c = search (rules, laws)
-
-pub enum_known-e : goal.enum_known-e
-enum_known-e c = search (rules, laws)
+pub returns-in_err-e : goal.returns-in_err-e
+returns-in_err-e c = let p = err_from_is_err_and c.from_residual.result c.from_residual.ensures.1 in let w0 = c.in_err-e.was in rw (p.1, p.2) (search (rules, laws))
 
 pub append_open-requires : goal.append_open-requires
-append_open-requires c = search (rules, laws)
+append_open-requires c = let w0 = c.in_ok-e.was in search (rules, laws)
 
-pub shape_of-transient-in-Declined : goal.shape_of-transient-in-Declined
-shape_of-transient-in-Declined c = search (rules, laws)
-
-pub returns-in-Declined : goal.returns-in-Declined
-returns-in-Declined c = search (rules, laws)
-
-pub shape_of-working : goal.shape_of-working
-shape_of-working c = search (rules, laws)
-
-pub shape_of-transient-in-Open : goal.shape_of-transient-in-Open
-shape_of-transient-in-Open c = search (rules, laws)
-
-pub returns-in-Open : goal.returns-in-Open
-returns-in-Open c = search (rules, laws)
+pub returns : goal.returns
+returns c = let w0 = c.in_ok-e.was in search (rules, laws)

@@ -1,28 +1,8 @@
+use Rattle.std.proofs.lemmas.Result.{err_from_is_err_and}
 -- `look_slot`: each way out is a law.
 use borrow.Author.Rules.{rules}
 use Rattle.queue_look.specs.Exits.{laws}
 use Rattle.queue_look.proofs.look_slot.Goals as goal
 
-pub check-requires : goal.check-requires
-check-requires c = search (rules, laws)
-
-pub enum_known-r : goal.enum_known-r
-enum_known-r c = search (rules, laws)
-
-pub enum_told-1 : goal.enum_told-1
-enum_told-1 c = search (rules, laws)
-
-pub read_sizes-z-requires : goal.read_sizes-z-requires
-read_sizes-z-requires c = search (rules, laws)
-
-pub wide-requires : goal.wide-requires
-wide-requires c = search (rules, laws)
-
-pub look_sized-requires : goal.look_sized-requires
-look_sized-requires c = search (rules, laws)
-
-pub returns-in-Refused : goal.returns-in-Refused
-returns-in-Refused c = search (rules, laws)
-
-pub returns-in-Accepted : goal.returns-in-Accepted
-returns-in-Accepted c = search (rules, laws)
+pub returns-in_err-check : goal.returns-in_err-check
+returns-in_err-check c = let p = err_from_is_err_and c.from_residual.result c.from_residual.ensures.1 in let w0 = c.in_err-check.was in rw (p.1, p.2) (search (rules, laws))

@@ -1,40 +1,11 @@
+use Rattle.std.proofs.lemmas.Result.{err_from_is_err_and}
 -- `take`: each way out is a law.
 use borrow.Author.Rules.{rules}
 use Rattle.queue_take.specs.Exits.{laws}
 use Rattle.queue_take.proofs.take.Goals as goal
 
-pub check-requires : goal.check-requires
-check-requires c = search (rules, laws)
+pub returns-in_err-check : goal.returns-in_err-check
+returns-in_err-check c = let p = err_from_is_err_and c.from_residual.result c.from_residual.ensures.1 in let w0 = c.in_err-check.was in rw (p.1, p.2) (search (rules, laws))
 
-pub enum_known-r : goal.enum_known-r
-enum_known-r c = search (rules, laws)
-
-pub enum_told-1 : goal.enum_told-1
-enum_told-1 c = search (rules, laws)
-
-pub read_sizes-z-requires : goal.read_sizes-z-requires
-read_sizes-z-requires c = search (rules, laws)
-
-pub wide-requires : goal.wide-requires
-wide-requires c = search (rules, laws)
-
-pub take_sized-requires : goal.take_sized-requires
-take_sized-requires c = search (rules, laws)
-
-pub shape_of-working-in-Refused : goal.shape_of-working-in-Refused
-shape_of-working-in-Refused c = search (rules, laws)
-
-pub shape_of-transient-in-Refused : goal.shape_of-transient-in-Refused
-shape_of-transient-in-Refused c = search (rules, laws)
-
-pub returns-in-Refused : goal.returns-in-Refused
-returns-in-Refused c = search (rules, laws)
-
-pub shape_of-working-in-Accepted : goal.shape_of-working-in-Accepted
-shape_of-working-in-Accepted c = search (rules, laws)
-
-pub shape_of-transient-in-Accepted : goal.shape_of-transient-in-Accepted
-shape_of-transient-in-Accepted c = search (rules, laws)
-
-pub returns-in-Accepted : goal.returns-in-Accepted
-returns-in-Accepted c = search (rules, laws)
+pub returns : goal.returns
+returns c = let w0 = c.in_ok-check.was in search (rules, laws)

@@ -3,29 +3,5 @@ use borrow.Author.Rules.{rules}
 use Rattle.queue_take.specs.Exits.{laws}
 use Rattle.queue_take.proofs.take_sized.Goals as goal
 
-pub way_in-requires : goal.way_in-requires
-way_in-requires c = search (rules, laws)
-
-pub enum_known-r : goal.enum_known-r
-enum_known-r c = search (rules, laws)
-
-pub enum_known-e : goal.enum_known-e
-enum_known-e c = search (rules, laws)
-
-pub take_open-requires : goal.take_open-requires
-take_open-requires c = search (rules, laws)
-
-pub shape_of-transient-in-Declined : goal.shape_of-transient-in-Declined
-shape_of-transient-in-Declined c = search (rules, laws)
-
-pub returns-in-Declined : goal.returns-in-Declined
-returns-in-Declined c = search (rules, laws)
-
-pub shape_of-working : goal.shape_of-working
-shape_of-working c = search (rules, laws)
-
-pub shape_of-transient-in-Open : goal.shape_of-transient-in-Open
-shape_of-transient-in-Open c = search (rules, laws)
-
-pub returns-in-Open : goal.returns-in-Open
-returns-in-Open c = search (rules, laws)
+pub returns : goal.returns
+returns c = let w0 = c.in_ok-e.was in search (rules, laws)

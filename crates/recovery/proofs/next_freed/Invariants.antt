@@ -5,6 +5,3 @@ use Rattle.recovery.proofs.next_freed.Given as goal
 
 abbrev pub invariant-loop-s : goal.invariant-loop-s
 invariant-loop-s l = Freeing l.img l.n l.s l.anti
-
-abbrev pub decreases-loop-s : goal.decreases-loop-s
-decreases-loop-s l = l.n - l.s

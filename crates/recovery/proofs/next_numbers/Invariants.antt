@@ -5,6 +5,3 @@ use Rattle.recovery.proofs.next_numbers.Given as goal
 
 abbrev pub invariant-loop-s : goal.invariant-loop-s
 invariant-loop-s l = Numbering l.img l.n l.w l.s l.uid l.order
-
-abbrev pub decreases-loop-s : goal.decreases-loop-s
-decreases-loop-s l = l.n - l.s

@@ -1,43 +1,6 @@
 -- `sync`: each way out is a law.
-use borrow.Author.Rules.{rules}
-use Rattle.sync.specs.Exits.{syncs, sync-ready}
+use Rattle.sync.specs.Exits.{sync-ready}
 use Rattle.sync.proofs.sync.Goals as goal
 
-pub check-requires : goal.check-requires
-check-requires c = search (rules, syncs)
-
-pub enum_known-r : goal.enum_known-r
-enum_known-r c = search (rules, syncs)
-
-pub enum_told-1 : goal.enum_told-1
-enum_told-1 c = search (rules, syncs)
-
-pub read_sizes-z-requires : goal.read_sizes-z-requires
-read_sizes-z-requires c = search (rules, syncs)
-
 pub sync_lines-requires : goal.sync_lines-requires
-sync_lines-requires c = sync-ready _ _ _ c.check.ensures c.in-Accepted.is c.read_sizes-z.ensures
-
-pub shape_of-working-in-Refused : goal.shape_of-working-in-Refused
-shape_of-working-in-Refused c = search (rules, syncs)
-
-pub shape_of-persistent-in-Refused : goal.shape_of-persistent-in-Refused
-shape_of-persistent-in-Refused c = search (rules, syncs)
-
-pub shape_of-transient-in-Refused : goal.shape_of-transient-in-Refused
-shape_of-transient-in-Refused c = search (rules, syncs)
-
-pub returns-in-Refused : goal.returns-in-Refused
-returns-in-Refused c = search (rules, syncs)
-
-pub shape_of-working-in-Accepted : goal.shape_of-working-in-Accepted
-shape_of-working-in-Accepted c = search (rules, syncs)
-
-pub shape_of-persistent-in-Accepted : goal.shape_of-persistent-in-Accepted
-shape_of-persistent-in-Accepted c = search (rules, syncs)
-
-pub shape_of-transient-in-Accepted : goal.shape_of-transient-in-Accepted
-shape_of-transient-in-Accepted c = search (rules, syncs)
-
-pub returns-in-Accepted : goal.returns-in-Accepted
-returns-in-Accepted c = search (rules, syncs)
+sync_lines-requires c = sync-ready _ _ _ c.check.ensures c.in_ok-check.was c.read_sizes-z.ensures

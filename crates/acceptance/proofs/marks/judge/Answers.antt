@@ -1,16 +1,13 @@
--- `judge`: all slots are the part from 0 on.
+-- `judge`: the loop goes by the laws.
 use Rattle.std.proofs.Common.{rules}
-use Rattle.acceptance.specs.Parts.{wholes}
+use Rattle.acceptance.specs.Judging.{judgings}
 use Rattle.acceptance.proofs.marks.judge.Goals as goal
 
-pub clock-c-requires : goal.clock-c-requires
-clock-c-requires c = search (rules, wholes)
+pub loop-s-init : goal.loop-s-init
+loop-s-init g c = search (rules, judgings)
 
-pub judge_part-requires : goal.judge_part-requires
-judge_part-requires c = search (rules, wholes)
-
-pub shape_of-l : goal.shape_of-l
-shape_of-l c = search (rules, wholes)
+pub loop-s-preserved : goal.loop-s-preserved
+loop-s-preserved g c = let w = c.in_ok-twice.was in search (rules, judgings)
 
 pub returns : goal.returns
-returns c = search (rules, wholes)
+returns g c = search (rules, judgings)

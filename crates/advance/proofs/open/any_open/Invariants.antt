@@ -6,6 +6,3 @@ use Rattle.advance.proofs.open.any_open.Given as goal
 
 abbrev pub invariant-loop-thread : goal.invariant-loop-thread
 invariant-loop-thread l = Sought (is_open l.transient) l.z.t l.thread
-
-abbrev pub decreases-loop-thread : goal.decreases-loop-thread
-decreases-loop-thread l = l.z.t - l.thread

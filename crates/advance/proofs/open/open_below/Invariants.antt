@@ -6,6 +6,3 @@ use Rattle.advance.proofs.open.open_below.Given as goal
 
 abbrev pub invariant-loop-thread : goal.invariant-loop-thread
 invariant-loop-thread l = Sought (is_open_below l.transient l.c) l.z.t l.thread
-
-abbrev pub decreases-loop-thread : goal.decreases-loop-thread
-decreases-loop-thread l = l.z.t - l.thread

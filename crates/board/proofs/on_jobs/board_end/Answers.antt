@@ -3,14 +3,5 @@ use borrow.Author.Rules.{rules}
 use Rattle.board.specs.Exits.{laws}
 use Rattle.board.proofs.on_jobs.board_end.Goals as goal
 
-pub end-requires : goal.end-requires
-end-requires c = search (rules, laws)
-
-pub reply_number-requires : goal.reply_number-requires
-reply_number-requires c = search (rules, laws)
-
-pub shape_of-transient : goal.shape_of-transient
-shape_of-transient c = search (rules, laws)
-
 pub returns : goal.returns
 returns c = search (rules, laws)

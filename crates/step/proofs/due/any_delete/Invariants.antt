@@ -6,6 +6,3 @@ use Rattle.step.proofs.due.any_delete.Given as goal
 
 abbrev pub invariant-loop-j : goal.invariant-loop-j
 invariant-loop-j l = Sought (is_delete l.working l.s) 16 l.j
-
-abbrev pub decreases-loop-j : goal.decreases-loop-j
-decreases-loop-j l = 16 - l.j

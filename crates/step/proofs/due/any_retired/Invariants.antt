@@ -6,6 +6,3 @@ use Rattle.step.proofs.due.any_retired.Given as goal
 
 abbrev pub invariant-loop-j : goal.invariant-loop-j
 invariant-loop-j l = Seen (is_retired l.z l.transient l.e l.s) 16 l.j l.any
-
-abbrev pub decreases-loop-j : goal.decreases-loop-j
-decreases-loop-j l = 16 - l.j

@@ -7,6 +7,3 @@ use Rattle.step.proofs.due.due_in.Given as goal
 
 abbrev pub invariant-loop-s : goal.invariant-loop-s
 invariant-loop-s l = From (due l.z (table l.working l.transient) l.c) l.to l.p l.s
-
-abbrev pub decreases-loop-s : goal.decreases-loop-s
-decreases-loop-s l = l.to - l.s

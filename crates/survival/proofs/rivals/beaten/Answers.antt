@@ -6,20 +6,8 @@ use Rattle.survival.proofs.rivals.beaten.Goals as goal
 pub loop-k-init : goal.loop-k-init
 loop-k-init c = search (rules, newer, meetings)
 
-pub overflow_sub-k : goal.overflow_sub-k
-overflow_sub-k c = search (rules, newer, meetings)
-
-pub label-requires : goal.label-requires
-label-requires c = search (rules, newer, meetings)
-
 pub returns-then-y-label : goal.returns-then-y-label
 returns-then-y-label c = search (rules, newer, meetings)
-
-pub next_kin-k-requires : goal.next_kin-k-requires
-next_kin-k-requires c = search (rules, newer, meetings)
-
-pub loop-k-smaller : goal.loop-k-smaller
-loop-k-smaller c = search (rules, newer, meetings)
 
 pub loop-k-preserved : goal.loop-k-preserved
 loop-k-preserved c = search (rules, newer, meetings)

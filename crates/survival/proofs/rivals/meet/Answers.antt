@@ -6,14 +6,5 @@ use Rattle.survival.proofs.rivals.meet.Goals as goal
 pub kin-k-requires : goal.kin-k-requires
 kin-k-requires c = search (rules, admissions)
 
-pub bounds-flags-s : goal.bounds-flags-s
-bounds-flags-s c = search (rules, admissions)
-
 pub returns-then-k-eq0 : goal.returns-then-k-eq0
 returns-then-k-eq0 c = search (rules, admissions)
-
-pub rival-requires : goal.rival-requires
-rival-requires c = search (rules, admissions)
-
-pub returns : goal.returns
-returns c = search (rules, admissions)

@@ -5,17 +5,8 @@ use Rattle.table.proofs.find.free_slot.Goals as goal
 pub loop-k-init : goal.loop-k-init
 loop-k-init c = search (rules, finds)
 
-pub next_slot-s-requires : goal.next_slot-s-requires
-next_slot-s-requires c = search (rules, finds)
-
 pub free_at-requires : goal.free_at-requires
 free_at-requires c = search (rules, finds)
-
-pub overflow_add-k : goal.overflow_add-k
-overflow_add-k c = search (rules, finds)
-
-pub loop-k-smaller : goal.loop-k-smaller
-loop-k-smaller c = search (rules, finds)
 
 pub loop-k-preserved : goal.loop-k-preserved
 loop-k-preserved c = search (rules, finds)

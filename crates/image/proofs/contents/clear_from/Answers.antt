@@ -1,7 +1,0 @@
--- `clear_from`: each way out is a law.
-use borrow.Author.Rules.{rules}
-use Rattle.image.specs.Exits.{laws}
-use Rattle.image.proofs.contents.clear_from.Goals as goal
-
-pub returns : goal.returns
-returns c = search (rules, laws)

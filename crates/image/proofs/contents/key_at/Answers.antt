@@ -1,7 +1,0 @@
--- `key_at`: each way out is a law.
-use borrow.Author.Rules.{rules}
-use Rattle.image.specs.Exits.{laws}
-use Rattle.image.proofs.contents.key_at.Goals as goal
-
-pub returns : goal.returns
-returns c = search (rules, laws)
