@@ -69,17 +69,15 @@ module _ (z : Sizes) (tb : Table) (thread : ℕ) (j : Job) (b : Bool) {k : Resul
   unfolding new_sized
   new-goes a p = way-open z tb thread (bad_job z j) (new_open z tb j) (rw be at way) a p
 
-pub new-sizes : (tb : Table) (thread : ℕ) (j : Job) {z : Sizes} {th : ℕ} {x : Changed} → z ≡ sizes_of tb → th ≡ thread → x ≡ new_sized th j z tb → x ≡ new_sized thread j (sizes_of tb) tb
-new-sizes tb thread j e i h = rw (i, e) at h
-
 -- 1 and 2
 module _ (wk l tr : List ℕ) (thread : ℕ) (j : Job) {k : Check} (c : k ≡ entry_check (store wk l tr)) where
   pub new-refused : {r : Refusal} → k ≡ Err r → outcome (Err r) wk l tr ≡ new_job (store wk l tr) thread j
   unfolding new_job new_sized new_open
   new-refused a = on-declined wk l tr c (new_sized thread j) a
 
-  pub new-enters : {q : Check} {wk' tr' : List ℕ} → k ≡ Ok tt → changed q wk' tr' ≡ new_sized thread j (sizes_of (table wk tr)) (table wk tr) → outcome q wk' l tr' ≡ new_job (store wk l tr) thread j
+  pub new-enters : {z : Sizes} {th : ℕ} {q : Check} {wk' tr' : List ℕ} → k ≡ Ok tt → z ≡ sizes_of (table wk tr) → th ≡ thread
+      → changed q wk' tr' ≡ new_sized th j z (table wk tr) → outcome q wk' l tr' ≡ new_job (store wk l tr) thread j
   unfolding new_job new_sized new_open
-  new-enters a h = on-passed wk l tr c (new_sized thread j) a h
+  new-enters a e i h = on-passed wk l tr c (new_sized thread j) a (rw (i, e) at h)
 
-pub ruleset laws = (entered-head, entered-notes, entered-wide, valued-entered, valued-shaped, way-valued, ready_of, ready-entered, ready-placed, new-done, new-full, new-placed, new-uid, new-room, new-later, new-exists, new-absent, new-declined, new-goes, new-sizes, new-refused, new-enters, passing)
+pub ruleset laws = (entered-head, entered-notes, entered-wide, valued-entered, valued-shaped, way-valued, ready_of, ready-entered, ready-placed, new-done, new-full, new-placed, new-uid, new-room, new-later, new-exists, new-absent, new-declined, new-goes, new-refused, new-enters, passing)

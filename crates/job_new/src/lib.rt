@@ -110,20 +110,6 @@ fn new_sized(
     new_open(working, transient, z, e, key, value)
 }
 
-fn new_entered(
-    working: &mut [u32],
-    transient: &mut [u32],
-    thread: u32,
-    key: u32,
-    value: &[u32],
-) -> Result<(), Refusal>
-    requires { Entered working.old transient.old (sizes_of (table working.old transient.old)) }
-    ensures { changed result working.new transient.new ≡ new_sized thread (job key value.now) (sizes_of (table working.old transient.old)) (table working.old transient.old) }
-{
-    let z = transient::sizes::read_sizes(working, transient);
-    new_sized(working, transient, z, thread as usize, key, value)
-}
-
 // Makes a job in the open operation of the thread.
 pub fn new(
     working: &mut [u32],
@@ -136,5 +122,6 @@ pub fn new(
     ensures { outcome result working.new persistent.now transient.new ≡ new_job (store working.old persistent.now transient.old) thread (job key value.now) }
 {
     transient::entry::check(working, persistent, transient)?;
-    new_entered(working, transient, thread, key, value)
+    let z = transient::sizes::read_sizes(working, transient);
+    new_sized(working, transient, z, thread as usize, key, value)
 }

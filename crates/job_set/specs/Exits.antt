@@ -81,17 +81,15 @@ module _ (z : Sizes) (tb : Table) (thread : ℕ) (j : Job) (b : Bool) {k : Resul
   unfolding set_sized
   set-goes a p = way-open z tb thread (bad_job z j) (set_opened z tb j) (rw be at way) a p
 
-pub set-sizes : (tb : Table) (thread : ℕ) (j : Job) {z : Sizes} {th : ℕ} {x : Changed} → z ≡ sizes_of tb → th ≡ thread → x ≡ set_sized th j z tb → x ≡ set_sized thread j (sizes_of tb) tb
-set-sizes tb thread j e i h = rw (i, e) at h
-
 -- 1 and 2
 module _ (wk l tr : List ℕ) (thread : ℕ) (j : Job) {k : Check} (c : k ≡ entry_check (store wk l tr)) where
   pub set-refused : {r : Refusal} → k ≡ Err r → outcome (Err r) wk l tr ≡ set_job (store wk l tr) thread j
   unfolding set_job set_sized set_opened
   set-refused a = on-declined wk l tr c (set_sized thread j) a
 
-  pub set-enters : {q : Check} {wk' tr' : List ℕ} → k ≡ Ok tt → changed q wk' tr' ≡ set_sized thread j (sizes_of (table wk tr)) (table wk tr) → outcome q wk' l tr' ≡ set_job (store wk l tr) thread j
+  pub set-enters : {z : Sizes} {th : ℕ} {q : Check} {wk' tr' : List ℕ} → k ≡ Ok tt → z ≡ sizes_of (table wk tr) → th ≡ thread
+      → changed q wk' tr' ≡ set_sized th j z (table wk tr) → outcome q wk' l tr' ≡ set_job (store wk l tr) thread j
   unfolding set_job set_sized set_opened
-  set-enters a h = on-passed wk l tr c (set_sized thread j) a h
+  set-enters a e i h = on-passed wk l tr c (set_sized thread j) a (rw (i, e) at h)
 
-pub ruleset laws = (entered-notes, reaching, way-valued, rewrite-done, resave-same, resave-full, update-none, update-done, set_same, set-older, set-later, set-live, set-absent, set-declined, set-goes, set-sizes, set-refused, set-enters, passing)
+pub ruleset laws = (entered-notes, reaching, way-valued, rewrite-done, resave-same, resave-full, update-none, update-done, set_same, set-older, set-later, set-live, set-absent, set-declined, set-goes, set-refused, set-enters, passing)

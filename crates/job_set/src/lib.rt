@@ -140,20 +140,6 @@ fn set_sized(
     set_open(working, transient, z, e, key, value)
 }
 
-fn set_entered(
-    working: &mut [u32],
-    transient: &mut [u32],
-    thread: u32,
-    key: u32,
-    value: &[u32],
-) -> Result<(), Refusal>
-    requires { Entered working.old transient.old (sizes_of (table working.old transient.old)) }
-    ensures { changed result working.new transient.new ≡ set_sized thread (job key value.now) (sizes_of (table working.old transient.old)) (table working.old transient.old) }
-{
-    let z = transient::sizes::read_sizes(working, transient);
-    set_sized(working, transient, z, thread as usize, key, value)
-}
-
 // Gives a live job another value, in the open operation of the thread.
 pub fn set(
     working: &mut [u32],
@@ -166,5 +152,6 @@ pub fn set(
     ensures { outcome result working.new persistent.now transient.new ≡ set_job (store working.old persistent.now transient.old) thread (job key value.now) }
 {
     transient::entry::check(working, persistent, transient)?;
-    set_entered(working, transient, thread, key, value)
+    let z = transient::sizes::read_sizes(working, transient);
+    set_sized(working, transient, z, thread as usize, key, value)
 }

@@ -84,19 +84,19 @@ unfolding bad_value
 append-valued z wk tr thread value b be way a y =
     record { entered = y; words = eqb-true (length value) (z.w - 1) (not-false _ (sym be ∙ (way-operating z tr thread b (sym way ∙ a)).fine)) }
 
-pub append-sizes : (tb : Table) (thread : ℕ) (value : List ℕ) {z : Sizes} {th : ℕ} {x : Changed} → z ≡ sizes_of tb → th ≡ thread → x ≡ append_sized th value z tb
-    → x ≡ append_sized thread value (sizes_of tb) tb
-append-sizes tb thread value e i h = rw (i, e) at h
-
 -- ---- the reply
-module _ (tb : Table) (thread : ℕ) (value : List ℕ) {o : ℕ} {k : Check} {wk tr : List ℕ} (oe : o ≡ note next_order_at tb.transient) (h : changed k wk tr ≡ append_sized thread value (sizes_of tb) tb) where
+module _ (tb : Table) (thread : ℕ) (value : List ℕ) {o : ℕ} {k : Check} {wk tr : List ℕ} {z : Sizes} {th : ℕ} (oe : o ≡ note next_order_at tb.transient)
+    (ze : z ≡ sizes_of tb) (te : th ≡ thread) (h : changed k wk tr ≡ append_sized th value z tb) where
+  whole : changed k wk tr ≡ append_sized thread value (sizes_of tb) tb
+  whole = rw (te, ze) at h
+
   pub given-order : k ≡ Ok tt → given (Ok o) wk tr ≡ append_given thread value tb
   unfolding append_given
-  given-order a = rw (← h, a, oe)
+  given-order a = rw (← whole, a, oe)
 
   pub given-none : {r : Refusal} → k ≡ Err r → given (Err r) wk tr ≡ append_given thread value tb
   unfolding append_given
-  given-none a = rw (← h, a)
+  given-none a = rw (← whole, a)
 
 -- 1 and 2
 module _ (wk l tr : List ℕ) (thread : ℕ) (value : List ℕ) {k : Check} (c : k ≡ entry_check (store wk l tr)) where
@@ -107,4 +107,4 @@ module _ (wk l tr : List ℕ) (thread : ℕ) (value : List ℕ) {k : Check} (c :
   unfolding append_given
   append-enters a h = rw (append-entry-is (store wk l tr) thread value, ← c, a) (ap (λ (x : Appended). outcome x.reply x.table.working l x.table.transient) h)
 
-pub ruleset laws = (entered-head, entered-notes, entered-wide, valued-entered, valued-shaped, valued-head, ready_of, ready-entered, ready-numbered, numbered-placed, numbered-head, numbered-after, numbered-order, bad-value, number-uid, number-order, append-done, append-full, append-placed, append-newer, append-number, append-room, append-declined, append-goes, append-valued, append-sizes, given-order, given-none, append-refused, append-enters, passing)
+pub ruleset laws = (entered-head, entered-notes, entered-wide, valued-entered, valued-shaped, valued-head, ready_of, ready-entered, ready-numbered, numbered-placed, numbered-head, numbered-after, numbered-order, bad-value, number-uid, number-order, append-done, append-full, append-placed, append-newer, append-number, append-room, append-declined, append-goes, append-valued, given-order, given-none, append-refused, append-enters, passing)

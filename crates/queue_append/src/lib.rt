@@ -100,19 +100,6 @@ fn append_sized(
     append_open(working, transient, z, e, value)
 }
 
-fn append_entered(
-    working: &mut [u32],
-    transient: &mut [u32],
-    thread: u32,
-    value: &[u32],
-) -> Result<(), Refusal>
-    requires { Entered working.old transient.old (sizes_of (table working.old transient.old)) }
-    ensures { changed result working.new transient.new ≡ append_sized thread value.now (sizes_of (table working.old transient.old)) (table working.old transient.old) }
-{
-    let z = transient::sizes::read_sizes(working, transient);
-    append_sized(working, transient, z, thread as usize, value)
-}
-
 // The number that the entry gets is the next one as it stood before.
 fn append_given(
     working: &mut [u32],
@@ -124,7 +111,8 @@ fn append_given(
     ensures { given result working.new transient.new ≡ append_given thread value.now (table working.old transient.old) }
 {
     let order = transient::notes::next_order(transient);
-    append_entered(working, transient, thread, value)?;
+    let z = transient::sizes::read_sizes(working, transient);
+    append_sized(working, transient, z, thread as usize, value)?;
     Ok(order)
 }
 

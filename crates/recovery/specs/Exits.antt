@@ -1,5 +1,6 @@
 -- The ways out of recover's functions.
-use Rattle.std.specs.Prelude.{ℕ, ◌+◌, ◌≤◌, ◌<◌, ◌^◌, ◌≡◌, refl, Bool, false, not, ◌&&◌, List, length, get_or, leb, eqb, Option, Some, None, Result, Ok, Err}
+use Rattle.std.specs.Prelude.{ℕ, ◌+◌, ◌≤◌, ◌<◌, ◌^◌, ◌≡◌, refl, Bool, false, not, ◌&&◌, List, length, get_or, leb, eqb, Option, Some, None, Result, Ok, Err, max}
+use Rattle.std.proofs.Math.Decide.{dec_lt}
 use Rattle.std.proofs.Common.{sym, ◌∙◌, ⊎_elim, Fits, add-one, arith}
 use Rattle.std.proofs.Math.Path.{ap}
 use Rattle.std.proofs.Math.Bool.{true, and-false}
@@ -143,17 +144,23 @@ module _ (l : List ℕ) (n s b : ℕ) (flags : List Bool) (z : FlagAt l n s flag
   raise-miss t = rw (flag_is z.marked.flagged z.within t)
 
   module _ {h : Header} (t : get_or flags s false ≡ true) (at : h ≡ header l s) where
-    pub raise-up : b < h.uid → h.uid ≡ raised (survivor l n) (uid_of l) s b
+    raise-up : b < h.uid → h.uid ≡ raised (survivor l n) (uid_of l) s b
     unfolding raised
     raise-up u =
         let e : uid_of l s ≡ h.uid = ap (λ (x : Header). x.uid) (sym at) in
         rw (flag_is z.marked.flagged z.within t, e, lt-ltb b h.uid u)
 
-    pub raise-level : h.uid ≤ b → b ≡ raised (survivor l n) (uid_of l) s b
+    raise-level : h.uid ≤ b → b ≡ raised (survivor l n) (uid_of l) s b
     unfolding raised
     raise-level u =
         let e : uid_of l s ≡ h.uid = ap (λ (x : Header). x.uid) (sym at) in
         rw (flag_is z.marked.flagged z.within t, e, le-ltb b h.uid u)
+
+    pub raise-most : {r : ℕ} → r ≡ max b h.uid → r ≡ raised (survivor l n) (uid_of l) s b
+    raise-most {r} e = elim (dec_lt b h.uid) [
+      | yes u ↦ let v : r ≡ h.uid = omega (arith, e) in v ∙ raise-up u
+      | no u ↦ let v : r ≡ b = omega (arith, e) in v ∙ raise-level (omega arith)
+    ]
 
 -- ---- the next order number
 module _ (l : List ℕ) (n w s : ℕ) {name : Name} (at : name ≡ name_at l n w s) where
@@ -174,15 +181,21 @@ module _ (l : List ℕ) (n w s b : ℕ) (flags : List Bool) (z : SlotMarked l n 
     order-job d = rw (flag_is z.flagged z.slot.within t, board-read l n w s at, ne_eqb name.board queue_board d)
 
     module _ (q : name.board ≡ queue_board) where
-      pub order-up : b < name.key → name.key ≡ raised (survives_on l n queue_board) (key_at l n w) s b
+      order-up : b < name.key → name.key ≡ raised (survives_on l n queue_board) (key_at l n w) s b
       unfolding raised survives_on
       order-up u =
           rw (flag_is z.flagged z.slot.within t, board-read l n w s at, eq-eqb name.board queue_board q, key-read l n w s at, lt-ltb b name.key u)
 
-      pub order-level : name.key ≤ b → b ≡ raised (survives_on l n queue_board) (key_at l n w) s b
+      order-level : name.key ≤ b → b ≡ raised (survives_on l n queue_board) (key_at l n w) s b
       unfolding raised survives_on
       order-level u =
           rw (flag_is z.flagged z.slot.within t, board-read l n w s at, eq-eqb name.board queue_board q, key-read l n w s at, le-ltb b name.key u)
+
+      pub order-most : {r : ℕ} → r ≡ max b name.key → r ≡ raised (survives_on l n queue_board) (key_at l n w) s b
+      order-most {r} e = elim (dec_lt b name.key) [
+        | yes u ↦ let v : r ≡ name.key = omega (arith, e) in v ∙ order-up u
+        | no u ↦ let v : r ≡ b = omega (arith, e) in v ∙ order-level (omega arith)
+      ]
 
 -- ---- both, in one walk
 pub record Numbering (l : List ℕ) (n w : ℕ) (s uid order : ℕ) : Type 0 where
@@ -383,4 +396,4 @@ module _ (wk l t : List ℕ) {k : Check} (c : k ≡ recover_entry_check (length 
 -- the walk for what is freed next
 pub ruleset frees = (flag_at, flag-of, headers-header_of, freeing-start, freeing-survives, freeing-stale, freeing-on, freeing-end)
 
-pub ruleset steps = (tests, firsts, marks, flag_at, flag-header, flag-of, anti-is, dies-not, dies-yes, stale-survives, stale-blank, stale-anti, stale-yes, anti-before, anti-here, anti-none, raise-miss, raise-up, raise-level, order-miss, order-job, order-up, order-level, order-name, numbering_start, numbering-next, uid-fits, order-fits, numbers-are, numbered-slot, numbered-flag, finish-marked, finish-header, finish-long, finish-noting, finish-done, noting-room, noting-slots, noting-blank, noting-shaped, noting-done, free_on, free-done, entry-shape, entry-working, entry-threads, entry-head, entry_first, entry-slots, judged, judged-long, judged-sized, flags-new, checked-same, judged-finishing, step-declines, step-goes, recover-declines, recover-goes)
+pub ruleset steps = (tests, firsts, marks, flag_at, flag-header, flag-of, anti-is, dies-not, dies-yes, stale-survives, stale-blank, stale-anti, stale-yes, anti-before, anti-here, anti-none, raise-miss, raise-most, order-miss, order-job, order-most, order-name, numbering_start, numbering-next, uid-fits, order-fits, numbers-are, numbered-slot, numbered-flag, finish-marked, finish-header, finish-long, finish-noting, finish-done, noting-room, noting-slots, noting-blank, noting-shaped, noting-done, free_on, free-done, entry-shape, entry-working, entry-threads, entry-head, entry_first, entry-slots, judged, judged-long, judged-sized, flags-new, checked-same, judged-finishing, step-declines, step-goes, recover-declines, recover-goes)

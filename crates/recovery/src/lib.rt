@@ -93,7 +93,7 @@ fn raise_uid(img: &[u32], flags: &[bool; 1024], n: usize, s: usize, best: u32) -
 {
     if flags[s] {
         let h = image::header::header_at(img, n, s);
-        if best < h.uid { h.uid } else { best }
+        best.max(h.uid)
     } else {
         best
     }
@@ -106,7 +106,7 @@ fn raise_order(img: &[u32], flags: &[bool; 1024], n: usize, w: usize, s: usize, 
     if flags[s] {
         let name = image::name::name_at(img, n, w, s);
         if name.board == Header::QUEUE {
-            if best < name.key { name.key } else { best }
+            best.max(name.key)
         } else {
             best
         }

@@ -223,13 +223,9 @@ pub fn step(
     requires { Going working.old persistent.old transient.old z c place.slot }
     ensures { moved result working.new persistent.new transient.new ≡ step z (store working.old persistent.old transient.old) c place }
 {
-    let at = place.slot;
-    let phase = place.phase;
-    if phase == Place::HEADER {
-        return flush_header(working, persistent, transient, z, c, at);
+    match place.phase {
+        Place::HEADER => flush_header(working, persistent, transient, z, c, place.slot),
+        Place::CLOCK => tick(working, persistent, transient, z, c),
+        _ => reclaim_or_flush(working, persistent, transient, z, c, place),
     }
-    if phase == Place::CLOCK {
-        return tick(working, persistent, transient, z, c);
-    }
-    reclaim_or_flush(working, persistent, transient, z, c, place)
 }

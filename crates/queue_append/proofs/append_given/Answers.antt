@@ -4,8 +4,8 @@ use borrow.Author.Rules.{rules}
 use Rattle.queue_append.specs.Exits.{laws}
 use Rattle.queue_append.proofs.append_given.Goals as goal
 
-pub returns-in_err-append_entered : goal.returns-in_err-append_entered
-returns-in_err-append_entered c = let p = err_from_is_err_and c.from_residual.result c.from_residual.ensures.1 in let w0 = c.in_err-append_entered.was in rw (p.1, p.2) (search (rules, laws))
+pub returns-in_err-append_sized : goal.returns-in_err-append_sized
+returns-in_err-append_sized c = let p = err_from_is_err_and c.from_residual.result c.from_residual.ensures.1 in let w0 = c.in_err-append_sized.was in rw (p.1, p.2) (search (rules, laws))
 
 pub returns : goal.returns
-returns c = let w0 = c.in_ok-append_entered.was in search (rules, laws)
+returns c = let w0 = c.in_ok-append_sized.was in search (rules, laws)
