@@ -1,11 +1,11 @@
 -- The server's questions of an image read in place from its bytes: what is answered, and the laws.
-use Rattle.std.specs.Prelude.{◌≡◌, ℕ, ◌<◌, Bool, true, false, not, List, length, ◌==◌, slice_index, slice_index_or, Result, Ok, Err}
+use Rattle.std.specs.Prelude.{◌≡◌, ℕ, ◌<◌, Bool, true, false, not, List, [], length, ◌==◌, slice_index, slice_index_or, Result, Ok, Err}
 use Rattle.std.proofs.Common.{refl, sym, ◌∙◌, arith}
 use Rattle.search.specs.Count.{count}
 use Rattle.reply.specs.declared.Refusal.{Refusal}
 use Rattle.reply.specs.declared.Refusal.TheVariants.{BadSizes}
 use Rattle.reply.specs.Refusals.{Check, refuse, by_check, declined_number, not-refused}
-use Rattle.image.specs.Layout.{jobs_board, header, slots_of}
+use Rattle.image.specs.Layout.{jobs_board, header, slots_of, width_of}
 use Rattle.image.specs.Bytes.{words_of}
 use Rattle.image.specs.Requires.{board_at}
 use Rattle.survival.specs.Survivors.{survives_on}
@@ -14,7 +14,9 @@ use Rattle.survival.specs.Laws.{flag_is}
 use Rattle.acceptance.specs.Accept.{image_check}
 use Rattle.acceptance.specs.Questions.{job_count, bytes_ok, clock_of_bytes, survivors_of_bytes}
 use Rattle.acceptance.specs.Laws.{image-sized}
-use Rattle.acceptance.specs.Checking.{Accepted, flags-new}
+use Rattle.acceptance.specs.Requires.{head_check}
+use Rattle.acceptance.specs.Checking.{Checked, Accepted, flags-new}
+use Rattle.acceptance.specs.Exits.{check-declines, check-goes}
 
 -- ---- answers
 unfoldable pub jobs_of : List ℕ → Result ℕ Refusal
@@ -55,6 +57,15 @@ module _ {l : List ℕ} {r : Check} {flags : List Bool} (z : Accepted l r flags)
     pub words-counts : {n k : ℕ} → n ≡ slots_of l → k ≡ job_count l n → Ok k ≡ jobs_of l
     unfolding jobs_of
     words-counts e h = rw (← z.same, q, h, e)
+
+-- ---- the head is asked first, and then the slots
+module _ (l : List ℕ) {k : Check} (c : k ≡ head_check l) where
+  pub head-refused : {e : Refusal} → k ≡ Err e → Err e ≡ jobs_of l
+  head-refused a = words-declines (check-declines l c {flags = []} a) refl
+
+  pub slots-refused : {n w : ℕ} {r : Check} {flags : List Bool} → k ≡ Ok tt → n ≡ slots_of l → w ≡ width_of l → Checked l n w r flags → {e : Refusal} → r ≡ Err e
+      → Err e ≡ jobs_of l
+  slots-refused a p q h b = words-declines (check-goes l c a p q h) b
 
 -- ---- any bytes
 module _ (bytes : List ℕ) {b : Bool} (e : b ≡ bytes_ok (length bytes)) where
@@ -104,4 +115,4 @@ module _ (bytes : List ℕ) {j : Result ℕ Refusal} (e : j ≡ jobs_of_bytes by
 
 pub ruleset told = (jobs-declined, jobs-counted, clock-declined, clock-told, clock-word)
 
-pub ruleset answers = (flags-new, flag_at, flag-header, job-flag, job-yes, job-no, jobs-are, words-declines, words-long, words-marked, words-counts, any-declines, any-jobs)
+pub ruleset answers = (flags-new, flag_at, flag-header, job-flag, job-yes, job-no, jobs-are, words-declines, words-long, words-marked, words-counts, head-refused, slots-refused, any-declines, any-jobs)

@@ -47,13 +47,16 @@ fn job_count(bytes: &[u8], flags: &[bool; 1024], n: usize) -> usize
     k
 }
 
-// Of the words that the bytes make.
+// Of the words that the bytes make. The flags are made where the slots are asked: refusals 1 and 2 have no need of them.
+#[tactic(auto, using(crate::specs::InPlace::answers, crate::specs::Exits::whole))]
 fn count_words(bytes: &[u8]) -> Result<usize, Refusal>
     ensures { result ≡ jobs_of (words_of bytes.now) }
 {
-    let mut flags = [false; 1024];
-    crate::checks::whole(bytes, &mut flags)?;
+    crate::checks::head(bytes)?;
     let n = bytes.word(0) as usize;
+    let w = bytes.word(1) as usize;
+    let mut flags = [false; 1024];
+    crate::checks::slots(bytes, &mut flags, n, w)?;
     Ok(job_count(bytes, &flags, n))
 }
 

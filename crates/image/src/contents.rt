@@ -23,12 +23,14 @@ pub fn key_at(img: &[u32], n: usize, w: usize, s: usize) -> u32
     crate::words::key(img, n, w, s)
 }
 
-// The first `k` words of `src`, stored in `dst` from `b` on.
+// The first `k` words of `src`, stored in `dst` from `b` on: by a loop, since `copy_from_slice` is a call of the C library's memmove.
 pub fn store_words(dst: &mut [u32], b: usize, src: &[u32], k: usize)
     requires { (b + k ≤ length dst.old) × (k ≤ length src.now) }
     ensures { dst.new ≡ stored dst.old b src.now k }
 {
-    dst[b..b + k].copy_from_slice(&src[..k]);
+    for j in 0..k {
+        dst[b + j] = src[j];
+    }
 }
 
 // A slot's contents, from one image to the other: a part of the source goes into that part of the target.

@@ -148,7 +148,8 @@ fn set_notes(image: &[u32], transient: &mut [u32], n: usize, w: usize, next: Num
     index::rebuild(image, transient, Sizes { n, w, t });
 }
 
-// Nothing is left to free: working becomes a copy, and the notes are set.
+// Nothing is left to free: working becomes a copy, and the notes are set. Out of line, so that the walk before it has the registers.
+#[inline(never)]
 fn finish(
     working: &mut [u32],
     persistent: &[u32],

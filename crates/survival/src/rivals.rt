@@ -58,6 +58,7 @@ fn rival(l: &[u32], flags: &mut [bool; 1024], m: usize, s: usize, k: usize, h: H
 }
 
 // What a kept slot meets. Most are the only one of their uid.
+#[inline(always)]
 fn meet(l: &[u32], flags: &mut [bool; 1024], m: usize, s: usize, h: Header) -> bool
     requires { Admits m s l.now h flags.old }
     ensures { Met l.now s h flags.old flags.new result }
@@ -71,6 +72,7 @@ fn meet(l: &[u32], flags: &mut [bool; 1024], m: usize, s: usize, h: Header) -> b
 }
 
 // A kept slot after those before it. Is there one of its uid and epoch among them?
+#[inline(always)]
 pub fn admit(l: &mut [u32], flags: &mut [bool; 1024], m: usize, s: usize, h: Header) -> bool
     requires { Admits m s l.old h flags.old }
     ensures { Admitted m l.old s h flags.old flags.new l.new result }
