@@ -64,7 +64,7 @@ module _ {img : List ℕ} {n w m : ℕ} {l : List ℕ} {flags : List Bool} (z : 
       pub room-names : {l'' : List ℕ} → Blank m l'' → NamesRoom img n w m l'' flags'
       room-names k = record { marked = sized-marked z.sized (y.found p).marked; fits = z.fits; blank = k }
 
-      module _ {q : Result Bool Refusal} (v : Named img n w q) where
+      module _ {k : List ℕ} {q : Result Bool Refusal} (v : Named img n w m k q) where
         pub room-nameless : {e : Refusal} → q ≡ Err e → Checked img n w (Err e) flags'
         unfolding slots_check all_proper some_nameless
         room-nameless u = let x = v.refused u in record { same = rw (x.0, (y.found p).proper-is, x.1); marked = declines }

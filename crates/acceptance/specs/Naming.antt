@@ -11,7 +11,7 @@ use Rattle.image.specs.Layout.{header, key_at}
 use Rattle.image.specs.declared.name.Name.{Name}
 use Rattle.image.specs.Name.{name_at, same_name, misnamed, misnamed-false, name-is}
 use Rattle.image.specs.Requires.{Slot, slot}
-use Rattle.chains.specs.Chains.{linked_at, pair_in, Blank, Linked}
+use Rattle.chains.specs.Chains.{label_of, linked_at, pair_in, Lent, Blank, Linked}
 use Rattle.chains.specs.Requires.{At, AllLinked}
 use Rattle.chains.specs.Carrying.{Carrying, carrying-start, carrying-skip, carrying-link, carried}
 use Rattle.survival.specs.Survivors.{survivor}
@@ -52,12 +52,19 @@ pub record NamesRoom (img : List ℕ) (n w m : ℕ) (l : List ℕ) (flags : List
   pub fits : n ≤ m
   pub blank : Blank m l
 
-pub record NamedAll (img : List ℕ) (n w : ℕ) (twice : Bool) : Type 0 where
+-- the board of each survivor stands as its label
+pub record Boards (img : List ℕ) (n m : ℕ) (l : List ℕ) : Type 0 where
+  pub lent : Lent m l
+  pub fits : n ≤ m
+  pub boards : (t : ℕ) → t < n → survivor img n t ≡ true → label_of l t ≡ (header img t).board
+
+pub record NamedAll (img : List ℕ) (n w m : ℕ) (l : List ℕ) (twice : Bool) : Type 0 where
   pub named : some_nameless img n w ≡ false
   pub twice-is : twice ≡ name_twice img n w
+  pub boards : Boards img n m l
 
-abbrev pub Named : List ℕ → ℕ → ℕ → Result Bool Refusal → Type 0
-Named img n w = Answer (some_nameless img n w ≡ true) (NamedAll img n w)
+abbrev pub Named : List ℕ → ℕ → ℕ → ℕ → List ℕ → Result Bool Refusal → Type 0
+Named img n w m l = Answer (some_nameless img n w ≡ true) (NamedAll img n w m l)
 
 -- ---- the ways out for one slot
 module _ {m s : ℕ} {l : List ℕ} (z : Names m s l) where
@@ -193,15 +200,19 @@ module _ {img : List ℕ} {n w m i : ℕ} {l : List ℕ} {twice : Bool} (z : Nam
         (λ (g : survivor img n i ≡ false). rw ((v.gone g).1, or-false twice) (naming-gone g h (v.gone g).0))
         (cases (survivor img n i)))
 
-    pub naming-bad : {e : Refusal} → r ≡ Err e → Named img n w (Err e)
+    pub naming-bad : {e : Refusal} → r ≡ Err e → Named img n w m l' (Err e)
     unfolding some_nameless
     naming-bad e = let v = y.refused e in rw v.0 (refuses (some_at (nameless img n w) n i h v.1))
 
-  pub naming-end : n ≤ i → NamedAll img n w twice
+  pub naming-end : n ≤ i → NamedAll img n w m l twice
   unfolding some_nameless name_twice
   naming-end a =
       let q : i ≡ n = omega (arith, z.low) in
-      record { named = none-some (nameless img n w) n (λ t b. z.named t (omega arith)); twice-is = z.twice-is ∙ (rw q) }
+      record {
+        named = none-some (nameless img n w) n (λ t b. z.named t (omega arith));
+        twice-is = z.twice-is ∙ (rw q);
+        boards = record { lent = z.carries.linked.lent; fits = z.fits; boards = λ t b k. z.carries.labels t (omega arith) k };
+      }
 
 pub ruleset namings = (refuses, finds, names_at, names-all, named-bad, named-fine, marked-names, marked-at, marked-slot, marked-flag, marked-yes, marked-no)
 

@@ -90,7 +90,7 @@ fn judge_slot(
 
 // All slots of an image. Is a version there twice?
 #[tactic(auto, using(crate::specs::Judging::judgings))]
-pub(crate) fn judge<W: Words>(
+pub fn judge<W: Words>(
     img: W,
     l: &mut [u32],
     flags: &mut [bool; 1024],

@@ -8,7 +8,7 @@ use reply::Refusal;
 // One survivor, after `s` slots.
 #[inline(always)]
 #[tactic(auto, using(crate::specs::Naming::namings))]
-fn name_slot(l: &mut [u32], m: usize, s: usize, name: Name) -> Result<bool, Refusal>
+pub fn name_slot(l: &mut [u32], m: usize, s: usize, name: Name) -> Result<bool, Refusal>
     requires { Names m s l.old }
     ensures { NamedSlot m l.old s name l.new result }
 {
@@ -43,7 +43,7 @@ fn name_marked<W: Words>(
 
 // All slots of an image. Is a name there twice?
 #[tactic(auto, using(crate::specs::Naming::names))]
-pub(crate) fn names<W: Words>(
+pub fn names<W: Words>(
     img: W,
     l: &mut [u32],
     flags: &[bool; 1024],
@@ -52,11 +52,11 @@ pub(crate) fn names<W: Words>(
     w: usize,
 ) -> Result<bool, Refusal>
     requires { NamesRoom (W.words img) n w m l.old flags.now }
-    ensures { Named (W.words img) n w result }
+    ensures { Named (W.words img) n w m l.new result }
 {
-    let mut twice = false;
+    let mut any = false;
     for s in 0..n {
-        twice |= name_marked(img, l, flags, m, n, w, s)?;
+        any |= name_marked(img, l, flags, m, n, w, s)?;
     }
-    Ok(twice)
+    Ok(any)
 }
