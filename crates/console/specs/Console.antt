@@ -1,5 +1,5 @@
 -- 01, "The image lister": what a program makes of the bytes it is given, and what it prints of a refusal.
-use Rattle.std.specs.Prelude.{ℕ, ◌/◌, not, List, ◌++◌, length, Result, Ok, Err}
+use Rattle.std.specs.Prelude.{ℕ, ◌/◌, ◌≡◌, ◌≤◌, not, List, ◌++◌, length, Result, Ok, Err}
 use Rattle.text.specs.Text.{ascii, decimal}
 use Rattle.reply.specs.declared.Refusal.{Refusal}
 use Rattle.reply.specs.declared.Refusal.TheVariants.{BadSizes}
@@ -19,3 +19,9 @@ refused_line r = ascii "refused " ++ decimal (refusal_number r) ++ ascii "\n"
 abbrev pub printed : Result ℕ Refusal → List ℕ → List ℕ
 printed (Ok k) text = text
 printed (Err r) text = refused_line r
+
+-- a run's text: behind what was there stands what the program prints of some bytes, those that were read
+pub record Reported (printed_of : List ℕ → List ℕ) (before after : List ℕ) : Type 0 where
+  pub bytes : List ℕ
+  pub few : length bytes ≤ 53260
+  pub is : after ≡ before ++ printed_of bytes

@@ -1,5 +1,5 @@
 -- The ways out of this crate's functions: a law for each.
-use Rattle.std.specs.Prelude.{ℕ, ◌/◌, ◌≡◌, Bool, true, false, take, Result, Ok, Err}
+use Rattle.std.specs.Prelude.{ℕ, ◌/◌, ◌≡◌, ◌≤◌, Bool, true, false, take, Result, Ok, Err}
 use Rattle.std.proofs.Common.{sym, ap, ◌∙◌, arith}
 use mathlib.Core.List.{List, [], ◌∷◌, ◌++◌, append_assoc}
 use Rattle.std.proofs.Math.ListN.{length}
@@ -13,7 +13,7 @@ use Rattle.acceptance.specs.Accept.{image_check}
 use Rattle.acceptance.specs.Questions.{bytes_ok}
 use Rattle.acceptance.specs.Requires.{buffered}
 use Rattle.acceptance.specs.Laws.{prefix-fits, prefix-is, decoding}
-use Rattle.console.specs.Console.{input_of, refused_line}
+use Rattle.console.specs.Console.{input_of, refused_line, Reported}
 use Rattle.console.specs.Requires.{Taken, printed-image, printed-refusal, taken-fits, taken-long, taken-accepted}
 
 -- ---- nothing is taken, or an image
@@ -59,5 +59,10 @@ pub refusal-pushed : (before : List ℕ) (r : Refusal) {x y : ℕ} {a b : List �
 unfolding refused_line
 refusal-pushed before r {x} e f p q =
     rw (← f, ← e, q, p) (line-of before (ascii "refused ") (decimal x) (10 ∷ []))
+
+-- ---- a run
+pub run-reported : {printed_of : List ℕ → List ℕ} {before after : List ℕ} (bytes : List ℕ) → length bytes ≤ 53260 → after ≡ before ++ printed_of bytes
+    → Reported printed_of before after
+run-reported bytes h e = record { bytes = bytes; few = h; is = e }
 
 pub ruleset laws = (decoding, taken-count, taken_refused, taken-image, refusal-pushed, taken-fits, taken-long, taken-accepted, printed-image, printed-refusal)

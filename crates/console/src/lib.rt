@@ -4,7 +4,7 @@
 ghost use Rattle.std.specs.Prelude.{◌≡◌, ℕ, List, ◌+◌, ◌≤◌, ◌++◌, length, Ok};
 ghost use Rattle.acceptance.specs.Accept.{image_check};
 ghost use Rattle.image.specs.Bytes.{words_of};
-ghost use Rattle.console.specs.Console.{input_of, refused_line, printed as printed_of};
+ghost use Rattle.console.specs.Console.{input_of, refused_line, printed as printed_of, Reported};
 ghost use Rattle.console.specs.Requires.{Taken};
 
 use reply::Refusal;
@@ -104,6 +104,7 @@ pub fn run<const N: usize, P: Report<N>, R: Read, W: Write>(
 )
     requires refusal_in_bounds { length out.old + 64 ≤ N }
     requires in_bounds { length out.old + P.most ≤ N }
+    ensures { Reported P.printed out.old out.new }
 {
     let mut bytes = [0u8; 53260];
     let mut words = [0u32; 13315];

@@ -88,15 +88,15 @@ module _ (z : Sizes) (tb : Table) (e : ℕ) (c : List ℕ) where
     pub change-unknown : {r : Refusal} → q ≡ Err r → refused r tb ≡ change_open z tb e c
     change-unknown d = rw (change-by, d)
 
-    module _ {kind : Kind} (a : q ≡ Ok kind) {x : Changed} where
-      pub change-new : kind ≡ New → x ≡ new_open z tb (job (job_of c).key (take (length c - 2) (drop 2 c))) e → x ≡ change_open z tb e c
-      change-new d h = rw (change-by, a, d) (rw (rest-is c) at h)
+    module _ {x : Changed} where
+      pub change-new : q ≡ Ok New → x ≡ new_open z tb (job (job_of c).key (take (length c - 2) (drop 2 c))) e → x ≡ change_open z tb e c
+      change-new a h = rw (change-by, a) (rw (rest-is c) at h)
 
-      pub change-set : kind ≡ Set → x ≡ set_opened z tb (job (job_of c).key (take (length c - 2) (drop 2 c))) e → x ≡ change_open z tb e c
-      change-set d h = rw (change-by, a, d) (rw (rest-is c) at h)
+      pub change-set : q ≡ Ok Set → x ≡ set_opened z tb (job (job_of c).key (take (length c - 2) (drop 2 c))) e → x ≡ change_open z tb e c
+      change-set a h = rw (change-by, a) (rw (rest-is c) at h)
 
-      pub change-delete : kind ≡ Delete → x ≡ delete_open z tb (job_of c).key e → x ≡ change_open z tb e c
-      change-delete d h = rw (change-by, a, d) h
+      pub change-delete : q ≡ Ok Delete → x ≡ delete_open z tb (job_of c).key e → x ≡ change_open z tb e c
+      change-delete a h = rw (change-by, a) h
 
 -- ---- the changes so far: `more` are to come, and the rest from here is the whole
 pub record Batching (z : Sizes) (e : ℕ) (list wk₀ tr₀ : List ℕ) (k : ℕ) (wk tr : List ℕ) : Type 0 where

@@ -12,7 +12,7 @@ ghost use Rattle.job_batch.specs.Requires.{Changing, Listed, Narrow};
 use reply::Refusal;
 use transient::sizes::Sizes;
 
-// How many changes were accepted, and what ended the batch: a refusal, or `Accepted` where none did.
+// How many changes were accepted, and what ended the batch: a refusal, or `Ok(())` where none did.
 #[derive(Clone, Copy)]
 pub struct Batch {
     pub accepted: u32,
@@ -22,7 +22,14 @@ pub struct Batch {
 // At most so many changes.
 pub const MOST_CHANGES: usize = 64;
 
-// The kinds of a change.
+// The kinds of a change, as the words of a list.
+pub const NEW: u32 = 1;
+
+pub const SET: u32 = 2;
+
+pub const DELETE: u32 = 3;
+
+// The kind of a change.
 #[derive(Clone, Copy, Debug, PartialEq, Eq)]
 pub enum Kind {
     New,
@@ -30,7 +37,7 @@ pub enum Kind {
     Delete,
 }
 
-// A word as a kind: 1, 2 or 3.
+// A word as a kind.
 impl TryFrom<u32> for Kind {
     type Error = Refusal;
 
@@ -38,9 +45,9 @@ impl TryFrom<u32> for Kind {
 
     fn try_from(x: u32) -> Result<Self, Refusal> {
         match x {
-            1 => Ok(Kind::New),
-            2 => Ok(Kind::Set),
-            3 => Ok(Kind::Delete),
+            NEW => Ok(Kind::New),
+            SET => Ok(Kind::Set),
+            DELETE => Ok(Kind::Delete),
             _ => Err(Refusal::BadArgument),
         }
     }
@@ -72,10 +79,11 @@ fn change(
     if key == 0 {
         return Err(Refusal::BadArgument);
     }
-    match Kind::try_from(c[0])? {
-        Kind::New => job_new::new_open(working, transient, z, e, key, &c[2..]),
-        Kind::Set => job_set::set_open(working, transient, z, e, key, &c[2..]),
-        Kind::Delete => job_delete::delete_open(working, transient, z, e, key),
+    match Kind::try_from(c[0]) {
+        Ok(Kind::New) => job_new::new_open(working, transient, z, e, key, &c[2..]),
+        Ok(Kind::Set) => job_set::set_open(working, transient, z, e, key, &c[2..]),
+        Ok(Kind::Delete) => job_delete::delete_open(working, transient, z, e, key),
+        Err(r) => Err(r),
     }
 }
 

@@ -1,7 +1,7 @@
 -- The test whether a slot holds a value; and that a value that passes is the one held.
 use Rattle.std.specs.Prelude.{ℕ, ◌+◌, ◌-◌, ◌≤◌, ◌≡◌, Bool, true, false, List, length, get_or, take, drop, eqb, nat_eq}
 use Rattle.std.proofs.Math.Path.{refl, sym}
-use Rattle.std.proofs.Common.{◌∙◌, length-take, length-drop}
+use Rattle.std.proofs.Common.{◌∙◌, length-take, length-drop, take_all}
 use Rattle.std.proofs.Math.Seq.{ext_get_or}
 use Rattle.std.specs.Cmp.Lexicographic.{pointwise, same_text, other_text}
 use borrow.Author.Tests.{eq-eqb, eqb-true}
@@ -40,17 +40,28 @@ module _ {z : Sizes} {wk : List ℕ} {s : ℕ} {value : List ℕ} (k : SlotValue
       go true q = elim (other_text value _ e (same-says q)) [ ]
       go false q = refl
 
-  -- the words of the slot's value stand from c + 1 on
-  pub same-is : {c : ℕ} {r : Bool} → c ≡ contents_at z.n z.w s → r ≡ pointwise nat_eq value (take (c + 1 + z.w - 1 - (c + 1)) (drop (c + 1) wk)) → r ≡ same_value z wk s value
-  unfolding value_at
-  same-is {c} {r} at e = let w : c + 1 + z.w - 1 - (c + 1) ≡ z.w - 1 = omega (arith, k.slot.sized.sizes.width-lo) in same-told r (rw (w, at) at e)
+  -- the k words of the value, and those of the slot's, which stand from c + 1 on
+  module _ {c j : ℕ} (at : c ≡ contents_at z.n z.w s) (all : j ≡ z.w - 1) where
+    pub same-is : {r : Bool} → r ≡ pointwise nat_eq (take j value) (take (c + 1 + j - (c + 1)) (drop (c + 1) wk)) → r ≡ same_value z wk s value
+    unfolding value_at
+    same-is {r} e =
+        let w : c + 1 + j - (c + 1) ≡ z.w - 1 = omega arith in
+        let t : take j value ≡ value = take_all j value (omega (arith, k.words)) in
+        same-told r (rw (w, t, at) at e)
 
--- the part of working
-module _ (z : Sizes) (wk : List ℕ) (s : ℕ) (value : List ℕ) {c : ℕ} (k : SlotValue wk z s value) (at : c ≡ contents_at z.n z.w s) where
-  pub part-from : c + 1 ≤ c + 1 + z.w - 1
-  part-from = omega (arith, k.slot.sized.sizes.width-lo)
+    -- .. both from word i on, where i is 0
+    pub same-from : {i : ℕ} {r : Bool} → i ≡ 0 → r ≡ pointwise nat_eq (take (j - i) (drop i value)) (take (c + 1 + j - (c + 1 + i)) (drop (c + 1 + i) wk)) → r ≡ same_value z wk s value
+    same-from {i} {r} none e =
+        let u : j - i ≡ j = omega arith in
+        let v : c + 1 + i ≡ c + 1 = omega arith in
+        same-is (rw (u, v, none) at e)
 
-  pub part-to : c + 1 + z.w - 1 ≤ length wk
-  part-to = omega (arith, at, k.slot.room)
+-- the parts
+module _ (z : Sizes) (wk : List ℕ) (s : ℕ) (value : List ℕ) (k : SlotValue wk z s value) where
+  pub value-to : {j : ℕ} → j ≤ z.w - 1 → j ≤ length value
+  value-to h = omega (arith, k.words)
 
-pub ruleset comparing = (value-slot, same-is, part-from, part-to)
+  pub part-to : {c j : ℕ} → c ≡ contents_at z.n z.w s → j ≤ z.w - 1 → c + 1 + j ≤ length wk
+  part-to at h = omega (arith, at, k.slot.room, k.slot.sized.sizes.width-lo)
+
+pub ruleset comparing = (value-slot, same-is, same-from, value-to, part-to)

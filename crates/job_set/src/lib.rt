@@ -39,7 +39,8 @@ fn same_value(working: &[u32], z: Sizes, s: usize, value: &[u32]) -> bool
     ensures { result ≡ same_value z working.now s value.now }
 {
     let first = image::contents::contents_at(z.n, z.w, s) + 1;
-    value == &working[first..first + z.w - 1]
+    let words = z.w - 1;
+    &value[..words] == &working[first..first + words]
 }
 
 // No room for a new version: the value that slot s holds is accepted, and nothing changes.

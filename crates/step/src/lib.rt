@@ -36,7 +36,7 @@ impl Place {
     pub const CLOCK: u32 = 4;
 }
 
-// One advance call's answer: "went on", "ticked", or a refusal.
+// What an advance call did: "went on" or "ticked".
 #[derive(Clone, Copy, Debug, PartialEq, Eq)]
 pub enum Advance {
     WentOn,
