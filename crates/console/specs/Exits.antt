@@ -1,9 +1,10 @@
 -- The ways out of this crate's functions: a law for each.
-use Rattle.std.specs.Prelude.{ℕ, ◌/◌, ◌≡◌, ◌≤◌, Bool, true, false, take, Result, Ok, Err}
+use Rattle.std.specs.Prelude.{ℕ, ◌+◌, ◌/◌, ◌≡◌, ◌≤◌, Bool, true, false, take, Result, Ok, Err}
 use Rattle.std.proofs.Common.{sym, ap, ◌∙◌, arith}
 use mathlib.Core.List.{List, [], ◌∷◌, ◌++◌, append_assoc}
 use Rattle.std.proofs.Math.ListN.{length}
 use Rattle.text.specs.Text.{ascii, decimal}
+use Rattle.text.specs.Putting.{Appended, Spelt, figure-ends, line-done}
 use Rattle.reply.specs.declared.Refusal.{Refusal}
 use Rattle.reply.specs.declared.Refusal.TheVariants.{BadSizes}
 use Rattle.reply.specs.Refusals.{Check, refusal_number}
@@ -60,9 +61,18 @@ unfolding refused_line
 refusal-pushed before r {x} e f p q =
     rw (← f, ← e, q, p) (line-of before (ascii "refused ") (decimal x) (10 ∷ []))
 
+module _ (x : ℕ) {before mid : List ℕ} {k : ℕ} (room : 64 ≤ length before) (p : Appended before 0 (ascii "refused " ++ decimal x) mid k) where
+  pub refused-room : k + 1 ≤ length mid
+  refused-room = omega (arith, figure-ends (ascii "refused ") x p, p.long)
+
+  pub refused-done : (r : Refusal) {y : ℕ} {after : List ℕ} {end : ℕ} → x ≡ y → y ≡ refusal_number r → Appended mid k (10 ∷ []) after end → Spelt before (refused_line r) after end
+  unfolding refused_line
+  refused-done r e f q =
+      rw (← f, ← e, ← append_assoc (ascii "refused ") (decimal x) (10 ∷ [])) (line-done p q (omega (arith, refused-room, p.long)))
+
 -- ---- a run
 pub run-reported : {printed_of : List ℕ → List ℕ} {before after : List ℕ} (bytes : List ℕ) → length bytes ≤ 53260 → after ≡ before ++ printed_of bytes
     → Reported printed_of before after
 run-reported bytes h e = record { bytes = bytes; few = h; is = e }
 
-pub ruleset laws = (decoding, taken-count, taken_refused, taken-image, refusal-pushed, taken-fits, taken-long, taken-accepted, printed-image, printed-refusal)
+pub ruleset laws = (decoding, taken-count, taken_refused, taken-image, refused-room, refused-done, refusal-pushed, taken-fits, taken-long, taken-accepted, printed-image, printed-refusal)

@@ -4,6 +4,7 @@
 ghost use Rattle.std.specs.Prelude.{◌≡◌, ℕ, List, ◌+◌, ◌≤◌, ◌++◌, length, Ok};
 ghost use Rattle.acceptance.specs.Accept.{image_check};
 ghost use Rattle.image.specs.Bytes.{words_of};
+ghost use Rattle.text.specs.Putting.{Spelt};
 ghost use Rattle.console.specs.Console.{input_of, refused_line, printed as printed_of, Reported};
 ghost use Rattle.console.specs.Requires.{Taken};
 
@@ -53,7 +54,17 @@ pub fn judge(bytes: &[u8], words: &mut [u32]) -> Result<usize, Refusal>
     }
 }
 
-// The line of a refusal.
+// The line of a refusal, at the front of a lent buffer; says where it ends.
+#[tactic(auto, using(crate::specs::Exits::laws))]
+pub fn refused_line(out: &mut [u8], r: Refusal) -> usize
+    requires { 64 ≤ length out.old }
+    ensures { Spelt out.old (refused_line r) out.new result }
+{
+    let k = text::put_figure(out, 0, b"refused ", u64::from(u32::from(r)));
+    text::put(out, k, b"\n")
+}
+
+// The same behind a text.
 #[tactic(auto, using(crate::specs::Exits::laws))]
 pub fn push_refusal<const N: usize>(out: &mut Text<N>, r: Refusal)
     requires { length out.old + 64 ≤ N }

@@ -88,6 +88,11 @@ module _ (z : Sizes) (tb : Table) (e : ℕ) (c : List ℕ) where
     pub change-unknown : {r : Refusal} → q ≡ Err r → refused r tb ≡ change_open z tb e c
     change-unknown d = rw (change-by, d)
 
+    -- .. and the refusal of a kind is always this one
+    pub change-refused : {r : Refusal} → q ≡ Err r → refused BadArgument tb ≡ change_open z tb e c
+    unfolding change_open
+    change-refused d = rw (ne_eqb (job_of c).key 0 k, kind-read (kind_of c) (new_open z tb (job_of c) e) (set_opened z tb (job_of c) e) (delete_open z tb (job_of c).key e) (λ r. refused BadArgument tb), ← qe, d)
+
     module _ {x : Changed} where
       pub change-new : q ≡ Ok New → x ≡ new_open z tb (job (job_of c).key (take (length c - 2) (drop 2 c))) e → x ≡ change_open z tb e c
       change-new a h = rw (change-by, a) (rw (rest-is c) at h)
@@ -192,7 +197,7 @@ module _ (wk l tr : List ℕ) (thread : ℕ) (list : List ℕ) {k : Check} (c : 
       → batched q wk' tr' ≡ batch_sized th list z (table wk tr) → outcome q wk' l tr' ≡ batch_jobs (store wk l tr) thread list
   batch-enters a e i h = ap (beside (store wk l tr)) (rw (i, e) at h) ∙ sym (batch-is (store wk l tr) thread list (sym c ∙ a))
 
-pub ruleset laws = (entered-notes, entered-narrow, narrow-words, narrow-list, list-many, list-parts, change-first, change-second, change-entered, change-long, change-valued, change-nameless, change-new, change-set, change-delete, change-unknown, list-fits, batch-start, batch-done, batch-room, batch-fits, batch-changing, batch-on, batch-ends, list-declined, list-goes, list-listed)
+pub ruleset laws = (entered-notes, entered-narrow, narrow-words, narrow-list, list-many, list-parts, change-first, change-second, change-entered, change-long, change-valued, change-nameless, change-new, change-set, change-delete, change-unknown, change-refused, list-fits, batch-start, batch-done, batch-room, batch-fits, batch-changing, batch-on, batch-ends, list-declined, list-goes, list-listed)
 
 -- the whole call
 pub ruleset entering = (batch-refused, batch-enters, passing)
