@@ -80,28 +80,31 @@ module _ (z : Sizes) (tb : Table) (e : ℕ) (c : List ℕ) where
   change-nameless k = rw (eq-eqb (job_of c).key 0 k)
 
   module _ {q : Result Kind Refusal} (k : (job_of c).key ≡ 0 → ⊥) (qe : q ≡ kind_in (kind_of c)) where
-    change-by : change_open z tb e c
-        ≡ by_read q (new_open z tb (job_of c) e) (set_opened z tb (job_of c) e) (delete_open z tb (job_of c).key e) (λ r. refused r tb)
+    -- `declined` is free but for what it makes of BadArgument, the one refusal that a kind has
+    change-by : (declined : Refusal → Changed) → declined BadArgument ≡ refused BadArgument tb
+        → change_open z tb e c ≡ by_read q (new_open z tb (job_of c) e) (set_opened z tb (job_of c) e) (delete_open z tb (job_of c).key e) declined
     unfolding change_open
-    change-by = rw (ne_eqb (job_of c).key 0 k, qe) (kind-read (kind_of c) _ _ _ (λ r. refused r tb))
+    change-by declined same = rw (ne_eqb (job_of c).key 0 k, qe, ← same) (kind-read (kind_of c) _ _ _ declined)
+
+    by-kind : change_open z tb e c ≡ by_read q (new_open z tb (job_of c) e) (set_opened z tb (job_of c) e) (delete_open z tb (job_of c).key e) (λ r. refused r tb)
+    by-kind = change-by (λ r. refused r tb) refl
 
     pub change-unknown : {r : Refusal} → q ≡ Err r → refused r tb ≡ change_open z tb e c
-    change-unknown d = rw (change-by, d)
+    change-unknown d = rw (by-kind, d)
 
     -- .. and the refusal of a kind is always this one
     pub change-refused : {r : Refusal} → q ≡ Err r → refused BadArgument tb ≡ change_open z tb e c
-    unfolding change_open
-    change-refused d = rw (ne_eqb (job_of c).key 0 k, kind-read (kind_of c) (new_open z tb (job_of c) e) (set_opened z tb (job_of c) e) (delete_open z tb (job_of c).key e) (λ r. refused BadArgument tb), ← qe, d)
+    change-refused d = rw (change-by (λ r. refused BadArgument tb) refl, d)
 
     module _ {x : Changed} where
       pub change-new : q ≡ Ok New → x ≡ new_open z tb (job (job_of c).key (take (length c - 2) (drop 2 c))) e → x ≡ change_open z tb e c
-      change-new a h = rw (change-by, a) (rw (rest-is c) at h)
+      change-new a h = rw (by-kind, a) (rw (rest-is c) at h)
 
       pub change-set : q ≡ Ok Set → x ≡ set_opened z tb (job (job_of c).key (take (length c - 2) (drop 2 c))) e → x ≡ change_open z tb e c
-      change-set a h = rw (change-by, a) (rw (rest-is c) at h)
+      change-set a h = rw (by-kind, a) (rw (rest-is c) at h)
 
       pub change-delete : q ≡ Ok Delete → x ≡ delete_open z tb (job_of c).key e → x ≡ change_open z tb e c
-      change-delete a h = rw (change-by, a) h
+      change-delete a h = rw (by-kind, a) h
 
 -- ---- the changes so far: `more` are to come, and the rest from here is the whole
 pub record Batching (z : Sizes) (e : ℕ) (list wk₀ tr₀ : List ℕ) (k : ℕ) (wk tr : List ℕ) : Type 0 where

@@ -40,7 +40,7 @@ module _ {z : Sizes} {wk : List ℕ} {s : ℕ} {value : List ℕ} (k : SlotValue
       go true q = elim (other_text value _ e (same-says q)) [ ]
       go false q = refl
 
-  -- the k words of the value, and those of the slot's, which stand from c + 1 on
+  -- all j words of the value, and those of the slot's, which stand from c + 1 on
   module _ {c j : ℕ} (at : c ≡ contents_at z.n z.w s) (all : j ≡ z.w - 1) where
     pub same-is : {r : Bool} → r ≡ pointwise nat_eq (take j value) (take (c + 1 + j - (c + 1)) (drop (c + 1) wk)) → r ≡ same_value z wk s value
     unfolding value_at
@@ -49,7 +49,7 @@ module _ {z : Sizes} {wk : List ℕ} {s : ℕ} {value : List ℕ} (k : SlotValue
         let t : take j value ≡ value = take_all j value (omega (arith, k.words)) in
         same-told r (rw (w, t, at) at e)
 
-    -- .. both from word i on, where i is 0
+    -- .. both from word i on, where i is 0: a test that passes over words fails here
     pub same-from : {i : ℕ} {r : Bool} → i ≡ 0 → r ≡ pointwise nat_eq (take (j - i) (drop i value)) (take (c + 1 + j - (c + 1 + i)) (drop (c + 1 + i) wk)) → r ≡ same_value z wk s value
     same-from {i} {r} none e =
         let u : j - i ≡ j = omega arith in
